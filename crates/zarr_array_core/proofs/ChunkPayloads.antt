@@ -18,6 +18,7 @@ use Rattle.zarr_codecs_meaning.proofs.Lists.{some_same}
 use Rattle.zarr_codecs_arrays.specs.Outcomes.{IsValid, IsCounted, IsMisformed, IsOtherCount}
 use Rattle.zarr_codecs_arrays.specs.declared.error.CodecError.{CodecError}
 use Rattle.zarr_codecs_arrays.specs.declared.error.CodecError.TheVariants as error
+use Rattle.zarr_codecs_traits.specs.Arrays.{coded}
 use Rattle.zarr_codecs_traits.specs.Outcomes.{Encodes, IsRefused}
 use Rattle.zarr_array_meaning.specs.Documents.{Document}
 use Rattle.zarr_array_core.specs.ChunkValues.{IsRefusal, refusal_of, EncodeRefuses}
@@ -41,13 +42,13 @@ same_cells : (elements : Elements) (shape : List ℕ) (payload : Payload) (given
 same_cells elements shape payload given cells are valid = some_same (sym valid.is.lists ∙ are.valid.is.lists)
 
 -- what an encoder answers of the elements of an array stands for them
-pub encoded_stands_for : (chain : Chain) (exact : Bool) (elements : Elements) (shape : List ℕ) (payload : Payload) (given : List Cell) (value : Vec ℕ Global) → AreArrayElements elements shape payload given → Encodes chain exact elements shape payload (Ok value)
+pub encoded_stands_for : (chain : Chain) (exact : Bool) (elements : Elements) (shape : List ℕ) (payload : Payload) (given : List Cell) (value : Vec ℕ Global) → AreArrayElements elements shape payload given → Encodes (coded chain elements shape) exact payload (Ok value)
     → is_lossless chain elements.type ≡ true → Stands chain elements shape value.items given
 encoded_stands_for chain exact elements shape payload given value are h lossless =
     subst (λ (cells : List Cell). Stands chain elements shape value.items cells) (same_cells elements shape payload given h.0 are h.1.valid) (h.1.stands lossless)
 
 -- and it is their encoding, where it depends on these alone
-pub encoded_as : (chain : Chain) (exact : Bool) (elements : Elements) (shape : List ℕ) (payload : Payload) (given : List Cell) (value : Vec ℕ Global) → AreArrayElements elements shape payload given → Encodes chain exact elements shape payload (Ok value)
+pub encoded_as : (chain : Chain) (exact : Bool) (elements : Elements) (shape : List ℕ) (payload : Payload) (given : List Cell) (value : Vec ℕ Global) → AreArrayElements elements shape payload given → Encodes (coded chain elements shape) exact payload (Ok value)
     → IsTrue exact → encoded chain elements shape given ≡ Some value.items
 encoded_as chain exact elements shape payload given value are h one =
     subst (λ (cells : List Cell). encoded chain elements shape cells ≡ Some value.items) (same_cells elements shape payload given h.0 are h.1.valid) (h.1.encodes one)
@@ -60,7 +61,7 @@ Refuses chain elements shape cells error.Memory = Unit {0}
 Refuses chain elements shape cells e = ⊥
 
 refused_cells : (chain : Chain) (elements : Elements) (shape : List ℕ) (payload : Payload) (given : List Cell) (cells : List Cell) (refuses : Chain → Elements → List ℕ → List Cell → Type 0) → AreArrayElements elements shape payload given
-    → IsRefused chain elements shape payload cells refuses → refuses chain elements shape given
+    → IsRefused (coded chain elements shape) payload cells refuses → refuses chain elements shape given
 refused_cells chain elements shape payload given cells refuses are h = subst (λ (cs : List Cell). refuses chain elements shape cs) (same_cells elements shape payload given cells are h.valid) h.is
 
 pub listed_none : (elements : Elements) (shape : List ℕ) (payload : Payload) (given : List Cell) → AreArrayElements elements shape payload given → cells_in elements.type payload ≡ None → ⊥
@@ -70,7 +71,7 @@ pub not_counted : (type : DataType) (payload : Payload) (count : ℕ) (given : L
 not_counted type payload count given is (inl h) = let k : Some given ≡ None = sym is.lists ∙ h.0 in cc
 not_counted type payload count given is (inr h) = h.2 (ap length (some_same (sym h.1 ∙ is.lists)) ∙ is.many)
 
-pub why_refused : (chain : Chain) (exact : Bool) (elements : Elements) (shape : List ℕ) (payload : Payload) (given : List Cell) (e : CodecError) → AreArrayElements elements shape payload given → fits chain elements.type shape ≡ true → Encodes chain exact elements shape payload (Err e)
+pub why_refused : (chain : Chain) (exact : Bool) (elements : Elements) (shape : List ℕ) (payload : Payload) (given : List Cell) (e : CodecError) → AreArrayElements elements shape payload given → fits chain elements.type shape ≡ true → Encodes (coded chain elements shape) exact payload (Err e)
     → Refuses chain elements shape given e
 why_refused chain exact elements shape payload given error.Fit are fit h = absurd (false≢true (sym h ∙ fit))
 why_refused chain exact elements shape payload given error.Damage are fit h = h.1

@@ -15,6 +15,7 @@ use Rattle.zarr_codecs_meaning.specs.Refusals.{CodecRefuses, PassesIndex}
 use Rattle.zarr_codecs_meaning.specs.Types.{Cell, DataType, Elements, bytes_in, components, is_fixed, byte_width, uint64, IsTooLarge}
 use Rattle.zarr_codecs_meaning.proofs.Once.{product_moved}
 use Rattle.zarr_codecs_options.specs.declared.codec_options.CodecOptions.{CodecOptions}
+use Rattle.zarr_codecs_traits.specs.Arrays.{coded, update_of}
 use Rattle.zarr_codecs_traits.specs.PartWriting.{MeetsLost, PassesLength, StopsWrite}
 use Rattle.zarr_codecs_traits.specs.Indexers.{Asked, numbers_asked}
 use Rattle.zarr_codecs_traits.proofs.Damage.{plain_placed, stops_part}
@@ -107,7 +108,7 @@ keeps_bits (after_array_codec codec chain) type is = keeps_bits chain type (inne
 keeps_bits (then_bytes chain codec) type is = absurd (false≢true is.partly)
 keeps_bits (sharded subchunk within index location) type is = absurd (false≢true is.plain)
 
-pub stopped_closed : (chain : Chain) (elements : Elements) (shape : List ℕ) (asked : Asked) (payload : Payload) (stored : Option (List ℕ)) → IsInPart chain → StopsWrite chain elements shape asked payload stored → Opens chain elements shape stored ≡ false
+pub stopped_closed : (chain : Chain) (elements : Elements) (shape : List ℕ) (asked : Asked) (payload : Payload) (stored : Option (List ℕ)) → IsInPart chain → StopsWrite (coded chain elements shape) (update_of asked payload stored) → Opens chain elements shape stored ≡ false
 stopped_closed chain elements shape asked payload stored is (inr h) = (let why = h.1 (keeps_bits chain elements.type is) in absurd (none_long chain elements shape stored _ is why.is))
 stopped_closed chain elements shape asked payload None is (inl h) = absurd h
 stopped_closed chain elements shape asked payload (Some value) is (inl h) = elim (stops_part chain elements shape value (numbers_asked shape asked) is.partly h) [

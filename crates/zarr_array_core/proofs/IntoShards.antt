@@ -20,6 +20,7 @@ use Rattle.zarr_codecs_options.specs.declared.codec_options.CodecOptions.{CodecO
 use Rattle.zarr_codecs_arrays.specs.declared.error.CodecError.{CodecError}
 use Rattle.zarr_codecs_arrays.specs.declared.error.CodecError.TheVariants as codec_error
 use Rattle.zarr_codecs_traits.specs.Indexers.{in_box, numbers_of, put}
+use Rattle.zarr_codecs_traits.specs.Arrays.{coded, update_of}
 use Rattle.zarr_codecs_traits.specs.PartWriting.{ChunkTight, IsEncodedInto, IsPlaced, MeetsLost, NotEncodedInto, PassesLength, StopsWrite, cells_after, cells_shown, only_cell}
 use Rattle.zarr_codecs_traits.proofs.Damage.{stops_part}
 use Rattle.zarr_array_storage.specs.declared.error.StorageError.{StorageError}
@@ -99,7 +100,7 @@ module _ (write : Write) (box : Region) (payload : Payload) (sub : List Cell) (r
   read stored n = chunk_part document.chain document.elements box.shape stored (n ∷ [])
 
   -- what is put over what is read
-  put_read : (stored : Option (List ℕ)) → cells_after document.chain document.elements box.shape stored ns sub ≡ cells_then write box stored
+  put_read : (stored : Option (List ℕ)) → cells_after (coded document.chain document.elements box.shape) stored ns sub ≡ cells_then write box stored
   put_read stored =
       let shown = cells_shown document.chain document.elements box.shape stored in
       let many : length shown ≡ product box.shape = length-map-range_with_len (read stored) 0 (product box.shape) in
@@ -110,7 +111,7 @@ module _ (write : Write) (box : Region) (payload : Payload) (sub : List Cell) (r
 
   -- ---- what a codec put
 
-  put_shard : (cells : List Cell) (old new : Option (List ℕ)) → IsIntoShard document write.region box → IsEncodedInto document.chain write.array.exact document.elements box.shape (in_box (part_of write.region box)) payload cells old new
+  put_shard : (cells : List Cell) (old new : Option (List ℕ)) → IsIntoShard document write.region box → IsEncodedInto (coded document.chain document.elements box.shape) write.array.exact (update_of (in_box (part_of write.region box)) payload old) cells new
       → IsPlaced document.chain box.shape old → PutsIntoShard write box old new
   put_shard cells old new into h placed =
       let same : cells ≡ sub = some_same (sym h.valid.is.lists ∙ are.are.valid.is.lists) in
@@ -126,10 +127,10 @@ module _ (write : Write) (box : Region) (payload : Payload) (sub : List Cell) (r
 
   -- ---- why it did not
 
-  then_cells : (cells : List Cell) (stored : Option (List ℕ)) → cells ≡ sub → cells_after document.chain document.elements box.shape stored ns cells ≡ cells_then write box stored
-  then_cells cells stored same = ap (λ (cs : List Cell). cells_after document.chain document.elements box.shape stored ns cs) same ∙ put_read stored
+  then_cells : (cells : List Cell) (stored : Option (List ℕ)) → cells ≡ sub → cells_after (coded document.chain document.elements box.shape) stored ns cells ≡ cells_then write box stored
+  then_cells cells stored same = ap (λ (cs : List Cell). cells_after (coded document.chain document.elements box.shape) stored ns cs) same ∙ put_read stored
 
-  not_taken : (stored : Option (List ℕ)) → IsIntoShard document write.region box → StopsWrite document.chain document.elements box.shape (in_box (part_of write.region box)) payload stored → StopsInto document write.region box stored ⊎ HasNoRoomFor write box stored
+  not_taken : (stored : Option (List ℕ)) → IsIntoShard document write.region box → StopsWrite (coded document.chain document.elements box.shape) (update_of (in_box (part_of write.region box)) payload stored) → StopsInto document write.region box stored ⊎ HasNoRoomFor write box stored
   not_taken None into (inl h) = absurd h
   not_taken (Some value) into (inl h) = inl (stops_part document.chain document.elements box.shape value ns into.partly h)
   not_taken stored into (inr h) = inr (
@@ -140,7 +141,7 @@ module _ (write : Write) (box : Region) (payload : Payload) (sub : List Cell) (r
   )
 
   not_into : (stored : Option (List ℕ)) (e : CodecError) (refusal : StorageError) → IsStoreRefusal refusal → IsIntoShard document write.region box → ¬ IsTooLarge document.elements.type (product box.shape)
-      → NotEncodedInto {A = Unit {0}} document.chain document.elements box.shape (in_box (part_of write.region box)) payload stored (Err e) → IntoShardStops write box stored (shard_refusal_of e refusal)
+      → NotEncodedInto {A = Unit {0}} (coded document.chain document.elements box.shape) (update_of (in_box (part_of write.region box)) payload stored) (Err e) → IntoShardStops write box stored (shard_refusal_of e refusal)
   not_into stored codec_error.Fit refusal told into small h = absurd (false≢true (sym h ∙ are.fit))
   not_into stored codec_error.Damage refusal told into small h = not_taken stored into h.1
   not_into stored codec_error.Codec refusal told into small h =
@@ -178,12 +179,12 @@ module _ (write : Write) (box shared part : Region) (shape start : List ℕ) (pa
   pub was_into : (old new : Option (List ℕ)) → IsPutInto chunk_part_is old new → PutsIntoShard write box old new
   was_into old new h =
       put_shard write box payload sub rank are h.cells old new into
-      (subst (λ (s : List ℕ). IsEncodedInto write.array.document.chain write.array.exact write.array.document.elements s (in_box (part_of write.region box)) payload h.cells old new) call.whole
-      (subst (λ (r : Region). IsEncodedInto write.array.document.chain write.array.exact write.array.document.elements shape (in_box r) payload h.cells old new) same_part h.encoded))
+      (subst (λ (s : List ℕ). IsEncodedInto (coded write.array.document.chain write.array.document.elements s) write.array.exact (update_of (in_box (part_of write.region box)) payload old) h.cells new) call.whole
+      (subst (λ (r : Region). IsEncodedInto (coded write.array.document.chain write.array.document.elements shape) write.array.exact (update_of (in_box r) payload old) h.cells new) same_part h.encoded))
       (subst (λ (s : List ℕ). IsPlaced write.array.document.chain s old) call.whole h.placed)
 
   pub was_not_into : (old : Option (List ℕ)) (e : CodecError) (refusal : StorageError) → IsStoreRefusal refusal → NotPutInto {A = Unit {0}} chunk_part_is old (Err e) → IntoShardStops write box old (shard_refusal_of e refusal)
   was_not_into old e refusal told h =
       not_into write box payload sub rank are old e refusal told into call.small
-      (subst (λ (s : List ℕ). NotEncodedInto {A = Unit {0}} write.array.document.chain write.array.document.elements s (in_box (part_of write.region box)) payload old (Err e)) call.whole
-      (subst (λ (r : Region). NotEncodedInto {A = Unit {0}} write.array.document.chain write.array.document.elements shape (in_box r) payload old (Err e)) same_part h))
+      (subst (λ (s : List ℕ). NotEncodedInto {A = Unit {0}} (coded write.array.document.chain write.array.document.elements s) (update_of (in_box (part_of write.region box)) payload old) (Err e)) call.whole
+      (subst (λ (r : Region). NotEncodedInto {A = Unit {0}} (coded write.array.document.chain write.array.document.elements shape) (update_of (in_box r) payload old) (Err e)) same_part h))

@@ -17,6 +17,7 @@ use Rattle.zarr_codecs_meaning.specs.Places.{places_of}
 use Rattle.zarr_codecs_meaning.specs.Standing.{Stands}
 use Rattle.zarr_codecs_meaning.specs.Types.{Cell, is_value, is_fill, same_cell, bytes_in, components, byte_width}
 use Rattle.zarr_codecs_meaning.proofs.Lists.{all_pass, each_map, map_some, some_same, if_some}
+use Rattle.zarr_codecs_traits.specs.Arrays.{coded}
 use Rattle.zarr_codecs_traits.specs.PartEncoding.{EncodesPart, IsEncodedPart, DecodesBySize, cells_with_box, takes_patches}
 use Rattle.zarr_codecs_traits.specs.Patches.{Patch, patched, patches_in}
 use Rattle.zarr_codecs_traits.specs.declared.value_patch.ValuePatches.{ValuePatches}
@@ -163,23 +164,23 @@ pub record AreShared (write : Write) (box : Region) (payload : Payload) (sub : L
   pub some : store_empty ≡ false → is_fill write.array.document.elements.fill sub ≡ false
 
 -- the cells that the codec put into the value are those of the box
-put_cells : (write : Write) (exact : Bool) (box : Region) (payload : Payload) (sub : List Cell) (store_empty : Bool) (cells : List Cell) (patches : List Patch) → AreShared write box payload sub store_empty
-    → IsEncodedPart write.array.document.chain exact write.array.document.elements box.shape (part_of write.region box) payload cells patches → cells ≡ sub
-put_cells write exact box payload sub store_empty cells patches are h =
+put_cells : (write : Write) (exact : Bool) (box : Region) (payload : Payload) (sub : List Cell) (store_empty : Bool) (patches : List Patch) → AreShared write box payload sub store_empty
+    → (h : IsEncodedPart (coded write.array.document.chain write.array.document.elements box.shape) exact (part_of write.region box) payload patches) → h.cells ≡ sub
+put_cells write exact box payload sub store_empty patches are h =
     some_same (sym h.valid.is.lists ∙ are.are.valid.is.lists)
 
-part_stands : (write : Write) (exact : Bool) (box : Region) (payload : Payload) (sub : List Cell) (store_empty : Bool) (cells : List Cell) (patches : List Patch) → AreShared write box payload sub store_empty
-    → IsEncodedPart write.array.document.chain exact write.array.document.elements box.shape (part_of write.region box) payload cells patches → (value : List ℕ) (before : List Cell) → decoded write.array.document.chain write.array.document.elements box.shape value ≡ Some before
+part_stands : (write : Write) (exact : Bool) (box : Region) (payload : Payload) (sub : List Cell) (store_empty : Bool) (patches : List Patch) → AreShared write box payload sub store_empty
+    → IsEncodedPart (coded write.array.document.chain write.array.document.elements box.shape) exact (part_of write.region box) payload patches → (value : List ℕ) (before : List Cell) → decoded write.array.document.chain write.array.document.elements box.shape value ≡ Some before
     → is_lossless write.array.document.chain write.array.document.elements.type ≡ true → Stands write.array.document.chain write.array.document.elements box.shape (patched value patches) (new_cells write.array.document.elements.fill write.region box sub before)
-part_stands write exact box payload sub store_empty cells patches are h value before is lossless =
-    subst (λ (cs : List Cell). Stands write.array.document.chain write.array.document.elements box.shape (patched value patches) (new_cells write.array.document.elements.fill write.region box cs before)) (put_cells write exact box payload sub store_empty cells patches are h)
+part_stands write exact box payload sub store_empty patches are h value before is lossless =
+    subst (λ (cs : List Cell). Stands write.array.document.chain write.array.document.elements box.shape (patched value patches) (new_cells write.array.document.elements.fill write.region box cs before)) (put_cells write exact box payload sub store_empty patches are h)
     (h.stands lossless value before is)
 
-part_encoded : (write : Write) (exact : Bool) (box : Region) (payload : Payload) (sub : List Cell) (store_empty : Bool) (cells : List Cell) (patches : List Patch) → AreShared write box payload sub store_empty
-    → IsEncodedPart write.array.document.chain exact write.array.document.elements box.shape (part_of write.region box) payload cells patches → (value : List ℕ) (before : List Cell) → decoded write.array.document.chain write.array.document.elements box.shape value ≡ Some before
+part_encoded : (write : Write) (exact : Bool) (box : Region) (payload : Payload) (sub : List Cell) (store_empty : Bool) (patches : List Patch) → AreShared write box payload sub store_empty
+    → IsEncodedPart (coded write.array.document.chain write.array.document.elements box.shape) exact (part_of write.region box) payload patches → (value : List ℕ) (before : List Cell) → decoded write.array.document.chain write.array.document.elements box.shape value ≡ Some before
     → IsTrue exact → encoded write.array.document.chain write.array.document.elements box.shape (new_cells write.array.document.elements.fill write.region box sub before) ≡ Some (patched value patches)
-part_encoded write exact box payload sub store_empty cells patches are h value before is one =
-    subst (λ (cs : List Cell). encoded write.array.document.chain write.array.document.elements box.shape (new_cells write.array.document.elements.fill write.region box cs before) ≡ Some (patched value patches)) (put_cells write exact box payload sub store_empty cells patches are h)
+part_encoded write exact box payload sub store_empty patches are h value before is one =
+    subst (λ (cs : List Cell). encoded write.array.document.chain write.array.document.elements box.shape (new_cells write.array.document.elements.fill write.region box cs before) ≡ Some (patched value patches)) (put_cells write exact box payload sub store_empty patches are h)
     (h.encodes one value before is)
 
 part_become : (write : Write) (box : Region) (payload : Payload) (sub : List Cell) (store_empty : Bool) (value : List ℕ) (before : List Cell) → AreShared write box payload sub store_empty → decoded write.array.document.chain write.array.document.elements box.shape value ≡ Some before
@@ -206,7 +207,7 @@ part_become write box payload sub store_empty value before are is =
 
 -- the ranges of a codec, written into a chunk's value
 pub part_patches : (write : Write) (box : Region) (payload : Payload) (sub : List Cell) (patches : ValuePatches) → AreShared write box payload sub (keeps_fill write box)
-    → EncodesPart write.array.document.chain write.array.exact write.array.document.elements box.shape (part_of write.region box) payload (Ok (Some patches)) → PatchesChunk write box (patches_in patches)
+    → EncodesPart (coded write.array.document.chain write.array.document.elements box.shape) write.array.exact (part_of write.region box) payload (Ok (Some patches)) → PatchesChunk write box (patches_in patches)
 part_patches write box payload sub patches are h =
     let exact = write.array.exact in
     let region = write.region in
@@ -214,7 +215,7 @@ part_patches write box payload sub patches are h =
     let fill = write.array.document.elements.fill in
     let meet = meeting region box are.share in
     record {
-      near = h.1.near;
+      near = h.near;
       makes = λ value before is.
           let cells = new_cells fill region box sub before in
           record {
@@ -224,15 +225,15 @@ part_patches write box payload sub patches are h =
             is = record {
               absent = λ none. let no : Some (patched value (patches_in patches)) ≡ None = none in cc;
               present = λ made same empty. unless_all (is_fill fill cells) (not_filled fill region box sub before are.rank meet are.becomes.many (are.some empty));
-              stands = part_stands write exact box payload sub store_empty h.0 (patches_in patches) are h.1 value before is;
-              encodes = λ one made same. part_encoded write exact box payload sub store_empty h.0 (patches_in patches) are h.1 value before is one ∙ same;
+              stands = part_stands write exact box payload sub store_empty (patches_in patches) are h value before is;
+              encodes = λ one made same. part_encoded write exact box payload sub store_empty (patches_in patches) are h value before is one ∙ same;
             };
           };
     }
 
 -- whatever ranges it gave
 pub found_patches : (write : Write) (box : Region) (payload : Payload) (sub : List Cell) (found : Option ValuePatches) → AreShared write box payload sub (keeps_fill write box)
-    → EncodesPart write.array.document.chain write.array.exact write.array.document.elements box.shape (part_of write.region box) payload (Ok found) → IfSome found (λ patches. PatchesChunk write box (patches_in patches))
+    → EncodesPart (coded write.array.document.chain write.array.document.elements box.shape) write.array.exact (part_of write.region box) payload (Ok found) → IfSome found (λ patches. PatchesChunk write box (patches_in patches))
 found_patches write box payload sub None are h = tt
 found_patches write box payload sub (Some patches) are h = part_patches write box payload sub patches are h
 

@@ -13,6 +13,7 @@ use Rattle.zarr_codecs_meaning.specs.Types.{Cell, DataType}
 use Rattle.zarr_codecs_meaning.proofs.Lists.{some_same}
 use Rattle.zarr_codecs_arrays.specs.Outcomes.{IsCounted}
 use Rattle.zarr_codecs_traits.specs.Indexers.{in_box, numbers_of}
+use Rattle.zarr_codecs_traits.specs.Arrays.{coded}
 use Rattle.zarr_codecs_traits.specs.Outcomes.{IsPart}
 use Rattle.zarr_array_meaning.specs.Boxes.{cell_of_box}
 use Rattle.zarr_array_meaning.specs.Chunks.{number_in, fits_box}
@@ -31,7 +32,7 @@ same_box grid chunk box other below over = some_same (sym below.has_box ∙ over
 
 -- what the part shows at a place
 part_shows : (document : Document) (region box shared part : Region) (stored : Option (List ℕ)) (payload : Payload) (place : List ℕ) → IsMeeting region box shared part
-    → (is : IsPart document.chain document.elements box.shape stored (in_box part) payload) → is_in_box shared.start shared.shape place ≡ true
+    → (is : IsPart (coded document.chain document.elements box.shape) stored (in_box part) payload) → is_in_box shared.start shared.shape place ≡ true
     → chunk_part document.chain document.elements box.shape stored (number_in box place ∷ []) ≡ Some (cell_of_box shared is.cells document.elements.fill place ∷ [])
 part_shows document region box shared part stored payload place meet is t =
     let n = number_in shared place in
@@ -44,7 +45,7 @@ part_shows document region box shared part stored payload place meet is t =
 
 -- ---- the part over the box
 pub placed : (met : MetChunk) (shared part : Region) (payload : Payload) (old new : List Cell) → IsMeeting met.region met.box shared part
-    → IsPart met.document.chain met.document.elements met.box.shape met.stored (in_box part) payload → ArePutOver met.document.elements.fill (cells_at shared (cells_of met.document.elements.type payload)) (cells_at met.region old) new → IsPlaced met old new
+    → IsPart (coded met.document.chain met.document.elements met.box.shape) met.stored (in_box part) payload → ArePutOver met.document.elements.fill (cells_at shared (cells_of met.document.elements.type payload)) (cells_at met.region old) new → IsPlaced met old new
 placed met shared part payload old new meet is over =
     let cells = known met.document.elements.type payload is.cells is.lists in
     record {
@@ -102,7 +103,7 @@ pub not_many : (type : DataType) (payload : Payload) (found : Option ℕ) (count
 not_many type payload found count cells h are = h ∙ (ap (option_map (λ (cells : List Cell). length cells)) are.lists ∙ ap (λ n. Some n) are.many)
 
 -- the elements of a part are as many as the places that it shares
-pub part_counted : (document : Document) (region box shared part : Region) (stored : Option (List ℕ)) (payload : Payload) → IsMeeting region box shared part → (is : IsPart document.chain document.elements box.shape stored (in_box part) payload)
+pub part_counted : (document : Document) (region box shared part : Region) (stored : Option (List ℕ)) (payload : Payload) → IsMeeting region box shared part → (is : IsPart (coded document.chain document.elements box.shape) stored (in_box part) payload)
     → IsCounted document.elements.type payload (product shared.shape) is.cells
 part_counted document region box shared part stored payload meet is = record {
   lists = is.lists;

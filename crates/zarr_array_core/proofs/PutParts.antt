@@ -24,6 +24,7 @@ use Rattle.zarr_codecs_arrays.specs.Outcomes.{IsCounted}
 use Rattle.zarr_codecs_arrays.specs.declared.error.CodecError.{CodecError}
 use Rattle.zarr_codecs_arrays.specs.declared.error.CodecError.TheVariants as codec_error
 use Rattle.zarr_codecs_traits.specs.Indexers.{in_box, numbers_of, put}
+use Rattle.zarr_codecs_traits.specs.Arrays.{coded, update_of}
 use Rattle.zarr_codecs_traits.specs.PartWriting.{IsEncodedInto, NotEncodedInto, cells_shown}
 use Rattle.zarr_codecs_traits.specs.Sources.{refused_after}
 use Rattle.zarr_array_meaning.specs.Boxes.{cell_of_box}
@@ -145,7 +146,7 @@ module _ (write : Write) (box : Region) (payload : Payload) (sub : List Cell) (a
   pub cell_out : (before : List Cell) (place : List ℕ) → is_in_box write.region.start write.region.shape place ≡ false → is_in_box box.start box.shape place ≡ true → get_or (put ns sub before) (number_in box place) write.array.document.elements.fill ≡ get_or before (number_in box place) write.array.document.elements.fill
   cell_out before place r t = put_out sub before write.array.document.elements.fill place r t
 
-module _ (write : Write) (exact : Bool) (box : Region) (payload : Payload) (sub cells : List Cell) (old new : Option (List ℕ)) (are : ArePut write box payload sub) (h : IsEncodedInto write.array.document.chain exact write.array.document.elements box.shape (in_box (part_of write.region box)) payload cells old new) (lossless : is_lossless write.array.document.chain write.array.document.elements.type ≡ true) where
+module _ (write : Write) (exact : Bool) (box : Region) (payload : Payload) (sub cells : List Cell) (old new : Option (List ℕ)) (are : ArePut write box payload sub) (h : IsEncodedInto (coded write.array.document.chain write.array.document.elements box.shape) exact (update_of (in_box (part_of write.region box)) payload old) cells new) (lossless : is_lossless write.array.document.chain write.array.document.elements.type ≡ true) where
   abbrev numbers : List ℕ
   numbers = numbers_of box.shape (part_of write.region box)
 
@@ -201,7 +202,7 @@ opened_of document box (Some value) h = h
 
 -- what a codec put into what is stored
 pub puts_cells : (write : Write) (exact : Bool) (box : Region) (payload : Payload) (sub cells : List Cell) (old new : Option (List ℕ)) → ArePut write box payload sub
-    → IsEncodedInto write.array.document.chain exact write.array.document.elements box.shape (in_box (part_of write.region box)) payload cells old new → PutsCells write box old new
+    → IsEncodedInto (coded write.array.document.chain write.array.document.elements box.shape) exact (update_of (in_box (part_of write.region box)) payload old) cells new → PutsCells write box old new
 puts_cells write exact box payload sub cells old new are h = record {
   opened = opened_of write.array.document box old h.opened;
   shows = λ lossless place t. shows_place write exact box payload sub cells old new are h lossless place (is_in_box write.region.start write.region.shape place) refl t;
@@ -258,7 +259,7 @@ counted_asked write box payload sub are =
     subst (λ n. IsCounted write.array.document.elements.type payload n sub) (sym (meeting write.region box are.share).many) are.are.valid.is
 
 why_not_put : (A : Type 0) (write : Write) (box : Region) (payload : Payload) (sub : List Cell) (stored : Option (List ℕ)) (e : CodecError) → IsInPart write.array.document.chain → ArePut write box payload sub → ¬ IsTooLarge write.array.document.elements.type (product box.shape)
-    → NotEncodedInto {A = A} write.array.document.chain write.array.document.elements box.shape (in_box (part_of write.region box)) payload stored (Err e) → IsPutStop write.array.document box stored e
+    → NotEncodedInto {A = A} (coded write.array.document.chain write.array.document.elements box.shape) (update_of (in_box (part_of write.region box)) payload stored) (Err e) → IsPutStop write.array.document box stored e
 why_not_put A write box payload sub stored codec_error.Fit chain are small h = false≢true (sym h ∙ are.fit)
 why_not_put A write box payload sub stored codec_error.Damage chain are small h = stopped_closed write.array.document.chain write.array.document.elements box.shape _ payload stored chain h.1
 why_not_put A write box payload sub stored codec_error.Codec chain are small h = no_codec_refuses write.array.document.chain write.array.document.elements box.shape _ chain h.is
@@ -341,14 +342,14 @@ module _ (write : Write) (box shared part : Region) (shape start : List ℕ) (pa
   pub part_is : part ≡ part_of write.region box
   part_is = call.seen ∙ (ap (λ (r : Region). relative r start) call.same ∙ ap (relative (overlapped write.region box)) call.from)
 
-  pub was_put : (exact : Bool) (cells : List Cell) (old new : Option (List ℕ)) → IsEncodedInto write.array.document.chain exact write.array.document.elements shape (in_box part) payload cells old new → PutsCells write box old new
+  pub was_put : (exact : Bool) (cells : List Cell) (old new : Option (List ℕ)) → IsEncodedInto (coded write.array.document.chain write.array.document.elements shape) exact (update_of (in_box part) payload old) cells new → PutsCells write box old new
   was_put exact cells old new h =
       puts_cells write exact box payload sub cells old new are_put
-      (subst (λ (s : List ℕ). IsEncodedInto write.array.document.chain exact write.array.document.elements s (in_box (part_of write.region box)) payload cells old new) call.whole
-      (subst (λ (r : Region). IsEncodedInto write.array.document.chain exact write.array.document.elements shape (in_box r) payload cells old new) part_is h))
+      (subst (λ (s : List ℕ). IsEncodedInto (coded write.array.document.chain write.array.document.elements s) exact (update_of (in_box (part_of write.region box)) payload old) cells new) call.whole
+      (subst (λ (r : Region). IsEncodedInto (coded write.array.document.chain write.array.document.elements shape) exact (update_of (in_box r) payload old) cells new) part_is h))
 
-  pub was_refused : (old : Option (List ℕ)) (e : CodecError) → IsInPart write.array.document.chain → NotEncodedInto {A = Unit {0}} write.array.document.chain write.array.document.elements shape (in_box part) payload old (Err e) → refused_after {A = Unit {0}} 0 (Err e) ≡ 0 → IsPutRefusal e × PutStops write.array.document box old (put_refusal_of e)
+  pub was_refused : (old : Option (List ℕ)) (e : CodecError) → IsInPart write.array.document.chain → NotEncodedInto {A = Unit {0}} (coded write.array.document.chain write.array.document.elements shape) (update_of (in_box part) payload old) (Err e) → refused_after {A = Unit {0}} 0 (Err e) ≡ 0 → IsPutRefusal e × PutStops write.array.document box old (put_refusal_of e)
   was_refused old e chain h none =
       put_refusal_told (Unit {0}) write.array.document box old e (why_not_put (Unit {0}) write box payload sub old e chain are_put call.small
-      (subst (λ (s : List ℕ). NotEncodedInto {A = Unit {0}} write.array.document.chain write.array.document.elements s (in_box (part_of write.region box)) payload old (Err e)) call.whole
-      (subst (λ (r : Region). NotEncodedInto {A = Unit {0}} write.array.document.chain write.array.document.elements shape (in_box r) payload old (Err e)) part_is h))) none
+      (subst (λ (s : List ℕ). NotEncodedInto {A = Unit {0}} (coded write.array.document.chain write.array.document.elements s) (update_of (in_box (part_of write.region box)) payload old) (Err e)) call.whole
+      (subst (λ (r : Region). NotEncodedInto {A = Unit {0}} (coded write.array.document.chain write.array.document.elements shape) (update_of (in_box r) payload old) (Err e)) part_is h))) none

@@ -16,6 +16,7 @@ use Rattle.zarr_codecs_arrays.specs.declared.array_bytes.ArrayBytes.{ArrayBytes}
 use Rattle.zarr_codecs_arrays.specs.declared.error.CodecError.{CodecError}
 use Rattle.zarr_codecs_arrays.specs.declared.error.CodecError.TheVariants as codec_error
 use Rattle.zarr_codecs_traits.specs.Indexers.{Asked, in_box}
+use Rattle.zarr_codecs_traits.specs.Arrays.{coded, update_of}
 use Rattle.zarr_codecs_traits.specs.PartWriting.{ChunkTight, IsEncodedInto, IsPlaced, NotEncodedInto, OnCells, PassesLength, WritesOnce, only_cell}
 use Rattle.zarr_codecs_traits.specs.Sources.{refused_after}
 use Rattle.zarr_codecs_traits.specs.declared.array_to_bytes.ArrayToBytesCodecTraits as codecs
@@ -129,12 +130,12 @@ putting_of c array shape part bytes = record { chain = c.meaning array.codecs; e
 -- they were put into what is stored for the array
 pub record IsPutInto (put : Putting) (stored made : Option (List ℕ)) : Type 0 where
   pub cells : List Cell
-  pub encoded : IsEncodedInto put.chain put.exact put.elements put.shape put.asked put.payload cells stored made
+  pub encoded : IsEncodedInto (coded put.chain put.elements put.shape) put.exact (update_of put.asked put.payload stored) cells made
   pub placed : IsPlaced put.chain put.shape stored
 
 -- or why they were not
 abbrev pub NotPutInto : {A : Type 0} → Putting → Option (List ℕ) → Result A CodecError → Type 0
-NotPutInto put stored result = NotEncodedInto put.chain put.elements put.shape put.asked put.payload stored result
+NotPutInto put stored result = NotEncodedInto (coded put.chain put.elements put.shape) (update_of put.asked put.payload stored) result
 
 -- a codec called a store, of which a call may have been refused: the store stays as honest as it was, its refusal is counted, at most one writing call is accepted, and an error changes nothing
 pub record CalledByCodec {S A : Type 0} (s : stores.Ghosts S) (old new : S) (result : Result A CodecError) : Type 0 where

@@ -11,6 +11,7 @@ use Rattle.zarr_codecs_meaning.specs.Types.{Cell, DataType}
 use Rattle.zarr_codecs_arrays.specs.Views.{payload_of}
 use Rattle.zarr_codecs_arrays.specs.declared.array_bytes.ArrayBytes.{ArrayBytes}
 use Rattle.zarr_codecs_traits.specs.Indexers.{in_box, numbers_of}
+use Rattle.zarr_codecs_traits.specs.Arrays.{coded}
 use Rattle.zarr_codecs_traits.specs.Outcomes.{IsPart}
 use Rattle.zarr_array_elements.specs.Boxes.{AreOfBox}
 use Rattle.zarr_array_meaning.specs.Arrays.{Array, value_at}
@@ -25,7 +26,7 @@ use Rattle.zarr_array_core.specs.declared.error.ChunkError.TheVariants as error
 
 -- the elements at the places of a box of a chunk, of what is stored for it; none where it does not fit; or why they are not read
 abbrev pub DecodesElements : Document → List ℕ → Option (List ℕ) → Region → Result (Option ArrayBytes) ChunkError → Type 0
-DecodesElements document shape stored part (Ok (Some bytes)) = IsPart document.chain document.elements shape stored (in_box part) (payload_of bytes)
+DecodesElements document shape stored part (Ok (Some bytes)) = IsPart (coded document.chain document.elements shape) stored (in_box part) (payload_of bytes)
 DecodesElements document shape stored part (Ok None) = fits document.chain document.elements.type shape ≡ false
 DecodesElements document shape stored part (Err error.Damage) = (fits document.chain document.elements.type shape ≡ true) × (chunk_part document.chain document.elements shape stored (numbers_of shape part) ≡ None)
 DecodesElements document shape stored part (Err (error.Storage e)) = IsStoreRefusal e
@@ -34,7 +35,7 @@ DecodesElements document shape stored part (Err e) = ⊥
 
 -- the elements of what is stored for a chunk at the places of a box that it shares with another one
 pub record IsChunkPart (document : Document) (box : Region) (stored : Option (List ℕ)) (shared : Region) (payload : Payload) : Type 0 where
-  pub is : IsPart document.chain document.elements box.shape stored (in_box (relative shared box.start)) payload
+  pub is : IsPart (coded document.chain document.elements box.shape) stored (in_box (relative shared box.start)) payload
 
 -- elements are as many as the places that a chunk shares with a box, and stand for these
 pub record AreShared (type : DataType) (region box : Region) (part : ChunkPart) : Type 0 where

@@ -222,7 +222,7 @@ impl<C: ArrayToBytesCodecTraits> ArrayCore<C> {
             key,
             refusal,
         };
-        match codecs.partial_decode(read.alloc, &mut source, asked, read.options) {
+        match codecs.partial_decode_in_order(read.alloc, &mut source, asked) {
             Ok(bytes) => Ok(Some(bytes)),
             Err(CodecError::Damage) => Err(ChunkError::Damage),
             Err(CodecError::Fit) => Ok(None),

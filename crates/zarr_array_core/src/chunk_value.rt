@@ -97,7 +97,7 @@ impl<C: ArrayToBytesCodecTraits> ArrayCore<C> {
     {
         match self
             .codecs
-            .decode(alloc, value, &self.elements, shape, options)
+            .decode_in_order(alloc, value, &self.elements, shape)
         {
             Ok(bytes) => Ok(bytes),
             Err(CodecError::Damage) => Err(ChunkError::Damage),
@@ -240,7 +240,7 @@ impl<C: ArrayToBytesCodecTraits> ArrayCore<C> {
     {
         match self
             .codecs
-            .encode(alloc, bytes, &self.elements, shape, options)
+            .encode_in_order(alloc, bytes, &self.elements, shape)
         {
             Ok(value) => Ok(value),
             Err(error) => Err(of_encoding(error)),

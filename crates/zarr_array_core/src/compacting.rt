@@ -128,7 +128,7 @@ impl<C: ArrayToBytesCodecTraits> ArrayCore<C> {
     {
         match self
             .codecs
-            .compact(alloc, value, &self.elements, shape, options)
+            .compact_in_order(alloc, value, &self.elements, shape)
         {
             Ok(made) => Ok(made),
             Err(CodecError::Fit) => Err(ChunkError::Fit),

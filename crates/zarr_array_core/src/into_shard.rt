@@ -72,7 +72,7 @@ impl<C: ArrayToBytesCodecTraits> ArrayCore<C> {
             indexer,
         };
         self.codecs
-            .partial_encode(write.alloc, target, given, asked, write.options)
+            .partial_encode_in_order(write.alloc, target, given, asked)
     }
 
     /// Puts the elements of a box that lie in a chunk into the chunk's shard, by one writing call

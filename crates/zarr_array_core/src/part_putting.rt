@@ -66,6 +66,7 @@ impl<C: ArrayToBytesCodecTraits> ArrayCore<C> {
     ghost use Rattle.zarr_codecs_meaning.specs.Chunks.{chunk_decoded};
     ghost use Rattle.zarr_codecs_meaning.specs.Types.{Cell, is_fixed};
     ghost use Rattle.zarr_codecs_traits.specs.Indexers.{in_box};
+    ghost use Rattle.zarr_codecs_traits.specs.Arrays.{coded, update_of};
     ghost use Rattle.zarr_codecs_traits.specs.PartWriting.{IsEncodedInto, NotEncodedInto};
     ghost use Rattle.zarr_codecs_traits.specs.Sources.{refused_after as refused_calls, source_contents};
     ghost use Rattle.zarr_grids_boxes.specs.Subsets.{region_of};
@@ -83,15 +84,15 @@ impl<C: ArrayToBytesCodecTraits> ArrayCore<C> {
         part: &ArraySubset,
     ) -> Result<(), CodecError>
         requires { is_fixed (document_of C.meaning self.now).elements.type ≡ true }
-        ensures ok { OnOk result ((cells : List Cell)
-            × IsEncodedInto (document_of C.meaning self.now).chain
-            (C.is_function self.now.codecs)
-            (plain_elements (document_of C.meaning self.now).elements) shape.now
-            (in_box (region_of part.now)) (payload_of given) cells (source_contents source.old)
-            (source_contents source.new)) }
-        ensures cause { NotEncodedInto (document_of C.meaning self.now).chain
-            (plain_elements (document_of C.meaning self.now).elements) shape.now
-            (in_box (region_of part.now)) (payload_of given) (source_contents source.old) result }
+        ensures ok { OnOk result ((cells : List Cell) × IsEncodedInto
+            (coded (document_of C.meaning self.now).chain
+            (plain_elements (document_of C.meaning self.now).elements) shape.now)
+            (C.is_function self.now.codecs) (update_of (in_box (region_of part.now))
+            (payload_of given) (source_contents source.old)) cells (source_contents source.new)) }
+        ensures cause { NotEncodedInto (coded (document_of C.meaning self.now).chain
+            (plain_elements (document_of C.meaning self.now).elements) shape.now)
+            (update_of (in_box (region_of part.now)) (payload_of given)
+            (source_contents source.old)) result }
         ensures refused { refused_calls 0 result ≡ 0 }
     {
         let plain = as_plain_bytes(write.alloc, &self.elements)?;
@@ -103,7 +104,7 @@ impl<C: ArrayToBytesCodecTraits> ArrayCore<C> {
             indexer,
         };
         self.codecs
-            .partial_encode(write.alloc, source, given, asked, write.options)
+            .partial_encode_in_order(write.alloc, source, given, asked)
     }
 
     /// Puts the elements of a box that lie in a chunk into the value that a source holds for it, as

@@ -13,7 +13,6 @@ use crate::store_calls::{set, set_partial, size_key};
 use std::alloc::{AllocError, Global};
 use zarr_array_storage::{ValuePatch, WritableStorageTraits};
 use zarr_codecs_arrays::{ArrayBytes, CodecError};
-use zarr_codecs_options::CodecOptions;
 use zarr_codecs_traits::value_patch::{any_ends_past, overwrite_each};
 use zarr_codecs_traits::{ArrayPart, ArrayToBytesCodecTraits, Indexer, ValuePatches};
 use zarr_codecs_types::Cell;
@@ -66,6 +65,7 @@ impl<C: ArrayToBytesCodecTraits> ArrayCore<C> {
     ghost use Rattle.zarr_codecs_arrays.specs.Views.{payload_of};
     ghost use Rattle.zarr_codecs_meaning.specs.Decoding.{decoded};
     ghost use Rattle.zarr_codecs_meaning.specs.Types.{byte_width, IsTooLarge};
+    ghost use Rattle.zarr_codecs_traits.specs.Arrays.{coded};
     ghost use Rattle.zarr_codecs_traits.specs.PartEncoding.{EncodesPart, takes_patches};
     ghost use Rattle.zarr_codecs_traits.specs.Patches.{patches_in, patches_of};
     ghost use Rattle.zarr_grids_boxes.specs.Boxes.{product};
@@ -118,7 +118,7 @@ impl<C: ArrayToBytesCodecTraits> ArrayCore<C> {
         if !has_few_lines(&part, own.shape()) {
             return Ok(None);
         }
-        let made = self.encode_part(write.alloc, bytes, own.shape(), &part, write.options);
+        let made = self.encode_part(write.alloc, bytes, own.shape(), &part);
         rooms.keep_shared(part);
         match made {
             Ok(patches) => Ok(patches),
@@ -134,10 +134,9 @@ impl<C: ArrayToBytesCodecTraits> ArrayCore<C> {
         given: ArrayBytes,
         shape: &'x [u64],
         part: &'x ArraySubset,
-        options: &CodecOptions,
     ) -> Result<Option<ValuePatches>, CodecError>
-        ensures { EncodesPart (document_of C.meaning self.now).chain
-            (C.is_function self.now.codecs) (document_of C.meaning self.now).elements shape.now
+        ensures { EncodesPart (coded (document_of C.meaning self.now).chain
+            (document_of C.meaning self.now).elements shape.now) (C.is_function self.now.codecs)
             (region_of part.now) (payload_of given) result }
     {
         let elements = &self.elements;
@@ -147,7 +146,7 @@ impl<C: ArrayToBytesCodecTraits> ArrayCore<C> {
             shape,
             indexer,
         };
-        self.codecs.encode_patches(alloc, given, asked, options)
+        self.codecs.encode_patches(alloc, given, asked)
     }
 
     /// How many bytes the value of a chunk of fill has, where all of them are 0.

@@ -2,21 +2,28 @@
 use crate::{decoders, states};
 use anyhow::Result;
 use std::alloc::Global;
+use std::marker::Sync;
+use std::thread::Threads;
 use zarr_calls_grids::words::{cut, metadatas_in, refused, texts_of};
 use zarr_calls_kinds::{TestCodec, answer_of_chain};
 use zarr_sharding_arrays::ArrayChain;
 
 /// What a call of a chain gives. Its first argument is the metadata of the chain's codecs.
-pub(crate) fn answer(alloc: Global, name: &str, rest: &str) -> Result<String> {
+pub(crate) fn answer<R: Threads + Sync>(
+    rt: &R,
+    alloc: Global,
+    name: &str,
+    rest: &str,
+) -> Result<String> {
     if name == "chain" {
         return written(alloc, rest);
     }
     let (codecs, rest) = cut(rest)?;
     let chain = chain_in(alloc, codecs)?;
     match name {
-        "state" => states::answer(alloc, &chain, rest),
-        "decoder" | "index" => decoders::answer(alloc, &chain, name, rest),
-        _ => answer_of_chain(alloc, &chain, name, rest),
+        "state" => states::answer(rt, alloc, &chain, rest),
+        "decoder" | "index" => decoders::answer(rt, alloc, &chain, name, rest),
+        _ => answer_of_chain(rt, alloc, &chain, name, rest),
     }
 }
 

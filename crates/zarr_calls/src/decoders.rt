@@ -1,7 +1,9 @@
 //! Shards that are read in part, and indexes.
-use crate::steps::{TakesSteps, take_all};
+use crate::steps::{Taken, is_read, lacks_memory, none_taken, stays};
 use anyhow::{Context, Result, bail};
 use std::alloc::Global;
+use std::marker::Sync;
+use std::thread::Threads;
 use zarr_calls_grids::words::{
     bytes_in, counted, cut, digits, numbers_in, push_word, refused, word,
 };
@@ -26,20 +28,22 @@ struct Decoding<'a, I: ArrayToBytesCodecTraits, X: ArrayToBytesCodecTraits> {
 }
 
 /// What a call of the shard of a chain gives: `decoder` or `index`.
-pub(crate) fn answer(
+pub(crate) fn answer<R: Threads + Sync>(
+    rt: &R,
     alloc: Global,
     chain: &ArrayChain<TestCodec>,
     name: &str,
     rest: &str,
 ) -> Result<String> {
     match chain {
-        ArrayChain::Sharded(chain) => asked(alloc, chain.sharding_codec(), name, rest),
-        ArrayChain::Nested(chain) => asked(alloc, chain.sharding_codec(), name, rest),
+        ArrayChain::Sharded(chain) => asked(rt, alloc, chain.sharding_codec(), name, rest),
+        ArrayChain::Nested(chain) => asked(rt, alloc, chain.sharding_codec(), name, rest),
         ArrayChain::Plain(_) => bail!("a chain has no shard"),
     }
 }
 
-fn asked<I: ArrayToBytesCodecTraits, X: ArrayToBytesCodecTraits>(
+fn asked<R: Threads + Sync, I: ArrayToBytesCodecTraits + Sync, X: ArrayToBytesCodecTraits + Sync>(
+    rt: &R,
     alloc: Global,
     codec: &ShardingCodec<I, X>,
     name: &str,
@@ -51,7 +55,7 @@ fn asked<I: ArrayToBytesCodecTraits, X: ArrayToBytesCodecTraits>(
     }
     let (value, steps) = cut(rest)?;
     let mut source = counting_in(alloc, value)?;
-    let all = taken(alloc, codec, &array, &mut source, steps)?;
+    let all = taken(rt, alloc, codec, &array, &mut source, steps)?;
     told(alloc, all.as_str(), &source)
 }
 
@@ -63,7 +67,8 @@ fn told(alloc: Global, all: &str, source: &CountingSource) -> Result<String> {
 }
 
 /// What steps give over the shard of an array.
-fn taken<I: ArrayToBytesCodecTraits, X: ArrayToBytesCodecTraits>(
+fn taken<R: Threads + Sync, I: ArrayToBytesCodecTraits + Sync, X: ArrayToBytesCodecTraits + Sync>(
+    rt: &R,
     alloc: Global,
     codec: &ShardingCodec<I, X>,
     array: &Array,
@@ -71,37 +76,76 @@ fn taken<I: ArrayToBytesCodecTraits, X: ArrayToBytesCodecTraits>(
     steps: &str,
 ) -> Result<String> {
     let (elements, shape) = (&array.elements, array.shape.as_slice());
-    let (whole, options) = (WholeArray { elements, shape }, CodecOptions::default());
-    match ShardingPartialDecoder::new(alloc, codec, source, whole, &options) {
-        Ok(decoder) => taken_by(alloc, decoder, elements.data_type(), steps),
+    let whole = WholeArray { elements, shape };
+    match ShardingPartialDecoder::new(alloc, codec, source, whole) {
+        Ok(decoder) => taken_by(rt, alloc, decoder, elements.data_type(), steps),
         Err(error) => refused(alloc, &error),
     }
 }
 
-fn taken_by<I: ArrayToBytesCodecTraits, X: ArrayToBytesCodecTraits>(
+fn taken_by<
+    R: Threads + Sync,
+    I: ArrayToBytesCodecTraits + Sync,
+    X: ArrayToBytesCodecTraits + Sync,
+>(
+    rt: &R,
     alloc: Global,
     decoder: ShardingPartialDecoder<'_, I, X, CountingSource>,
     data_type: &DataType,
     steps: &str,
 ) -> Result<String> {
     let mut decoding = Decoding { decoder, data_type };
-    take_all(alloc, &mut decoding, steps)
+    decoding.take_all(rt, alloc, steps)
 }
 
-impl<I: ArrayToBytesCodecTraits, X: ArrayToBytesCodecTraits> TakesSteps for Decoding<'_, I, X> {
+impl<I: ArrayToBytesCodecTraits + Sync, X: ArrayToBytesCodecTraits + Sync> Decoding<'_, I, X> {
+    /// What steps give, with a space between them.
+    fn take_all<R: Threads + Sync>(
+        &mut self,
+        rt: &R,
+        alloc: Global,
+        steps: &str,
+    ) -> Result<String> {
+        let mut all = String::new(alloc);
+        let mut before = none_taken(alloc);
+        for step in steps.split(" | ") {
+            let given = self.take_at_last(rt, alloc, step, &before)?;
+            push_word(&mut all, given.as_str())?;
+            before = Taken { step, given };
+        }
+        Ok(all)
+    }
+
+    /// What a step gives, which is taken once more where memory ran out. A read right before it
+    /// still gives then what it gave.
+    fn take_at_last<R: Threads + Sync>(
+        &mut self,
+        rt: &R,
+        alloc: Global,
+        step: &str,
+        before: &Taken<'_>,
+    ) -> Result<String> {
+        let given = self.take(rt, alloc, step)?;
+        if !lacks_memory(given.as_str()) {
+            return Ok(given);
+        }
+        if is_read(before.step) {
+            stays(before, self.take(rt, alloc, before.step)?.as_str())?;
+        }
+        self.take(rt, alloc, step)
+    }
+
     /// Takes `read PLACES`, `into PLACES = BYTES`, `slice SUBCHUNK`, `range SUBCHUNK` or `held`.
-    fn take(&mut self, alloc: Global, step: &str) -> Result<String> {
+    fn take<R: Threads + Sync>(&mut self, rt: &R, alloc: Global, step: &str) -> Result<String> {
         match step.split_once(' ') {
             None => self.held(alloc),
-            Some(("read", places)) => self.read(alloc, places),
-            Some(("into", rest)) => self.put_over(alloc, rest),
+            Some(("read", places)) => self.read(rt, alloc, places),
+            Some(("into", rest)) => self.put_over(rt, alloc, rest),
             Some(("slice", subchunk)) => self.slice(alloc, subchunk),
             Some((_range, subchunk)) => self.range(alloc, subchunk),
         }
     }
-}
 
-impl<I: ArrayToBytesCodecTraits, X: ArrayToBytesCodecTraits> Decoding<'_, I, X> {
     /// Whether there is a value, and how many bytes are kept of it.
     fn held(&self, alloc: Global) -> Result<String> {
         let bytes = self.decoder.size_held();
@@ -109,11 +153,11 @@ impl<I: ArrayToBytesCodecTraits, X: ArrayToBytesCodecTraits> Decoding<'_, I, X> 
         Ok(format!(in alloc; "{there} value and {bytes} bytes kept")?)
     }
 
-    fn read(&mut self, alloc: Global, places: &str) -> Result<String> {
+    fn read<R: Threads + Sync>(&mut self, rt: &R, alloc: Global, places: &str) -> Result<String> {
         let (places, options) = (places_in(alloc, places)?, CodecOptions::default());
         match self
             .decoder
-            .partial_decode(alloc, places.indexer(), &options)
+            .partial_decode(rt, alloc, places.indexer(), &options)
         {
             Ok(cells) => json(alloc, self.data_type, &cells),
             Err(error) => refused(alloc, &error),
@@ -121,7 +165,7 @@ impl<I: ArrayToBytesCodecTraits, X: ArrayToBytesCodecTraits> Decoding<'_, I, X> 
     }
 
     /// Some bytes once cells of a byte each are put over all but the first and the last of them.
-    fn put_over(&mut self, alloc: Global, rest: &str) -> Result<String> {
+    fn put_over<R: Threads + Sync>(&mut self, rt: &R, alloc: Global, rest: &str) -> Result<String> {
         let (places, bytes) = rest.split_once(" = ").context("a target has no bytes")?;
         let (places, mut bytes) = (places_in(alloc, places)?, bytes_in(alloc, bytes)?);
         let shape = [bytes.len() as u64];
@@ -135,7 +179,7 @@ impl<I: ArrayToBytesCodecTraits, X: ArrayToBytesCodecTraits> Decoding<'_, I, X> 
         let (asked, options) = (places.indexer(), CodecOptions::default());
         let done = self
             .decoder
-            .partial_decode_into(alloc, asked, &mut target, &options);
+            .partial_decode_into(rt, alloc, asked, &mut target, &options);
         put_or_not(alloc, bytes.as_slice(), done)
     }
 
@@ -177,9 +221,9 @@ fn index<I: ArrayToBytesCodecTraits, X: ArrayToBytesCodecTraits>(
     array: &Array,
     value: &str,
 ) -> Result<String> {
-    let (value, options) = (bytes_in(alloc, value)?, CodecOptions::default());
+    let value = bytes_in(alloc, value)?;
     let (data_type, shape) = (array.elements.data_type(), array.shape.as_slice());
-    match codec.decode_index(alloc, value.as_slice(), data_type, shape, &options) {
+    match codec.decode_index(alloc, value.as_slice(), data_type, shape) {
         Ok(index) => pairs(alloc, &index),
         Err(error) => refused(alloc, &error),
     }

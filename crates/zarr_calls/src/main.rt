@@ -12,5 +12,5 @@ mod states;
 mod steps;
 
 fn main(rt: HostRuntime) -> anyhow::Result<()> {
-    lines::answer_lines(rt.alloc(), rt.stdin(), &mut rt.stdout())
+    lines::answer_lines(&rt, rt.alloc(), rt.stdin(), &mut rt.stdout())
 }

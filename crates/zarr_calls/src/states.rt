@@ -1,7 +1,9 @@
 //! Shards that are kept open.
-use crate::steps::{TakesSteps, take_all};
+use crate::steps::{Taken, is_read, lacks_memory, none_taken, stays};
 use anyhow::{Context, Result, bail};
 use std::alloc::Global;
+use std::marker::Sync;
+use std::thread::Threads;
 use zarr_calls_grids::words::{cut, push_word, refused, word};
 use zarr_calls_kinds::{
     Array, CountingSource, TestCodec, array_in, counting_in, given_in, json, left, left_by,
@@ -24,10 +26,15 @@ struct Kept<'a, I: ArrayToBytesCodecTraits, X: ArrayToBytesCodecTraits> {
 
 /// What steps give that are taken over the shard of a chain, the value after them, and what its
 /// source was asked for.
-pub(crate) fn answer(alloc: Global, chain: &ArrayChain<TestCodec>, rest: &str) -> Result<String> {
+pub(crate) fn answer<R: Threads + Sync>(
+    rt: &R,
+    alloc: Global,
+    chain: &ArrayChain<TestCodec>,
+    rest: &str,
+) -> Result<String> {
     match chain {
-        ArrayChain::Sharded(chain) => over_shard(alloc, chain.sharding_codec(), rest),
-        ArrayChain::Nested(chain) => over_shard(alloc, chain.sharding_codec(), rest),
+        ArrayChain::Sharded(chain) => over_shard(rt, alloc, chain.sharding_codec(), rest),
+        ArrayChain::Nested(chain) => over_shard(rt, alloc, chain.sharding_codec(), rest),
         ArrayChain::Plain(_) => bail!("a chain has no shard"),
     }
 }
@@ -39,28 +46,30 @@ fn open<'a, I: ArrayToBytesCodecTraits, X: ArrayToBytesCodecTraits>(
     source: CountingSource,
     array: WholeArray<'a>,
 ) -> Result<ShardState<'a, I, X, CountingSource>, (CountingSource, CodecError)> {
-    let options = CodecOptions::default();
-    match ShardState::open(alloc, codec, source, array, &options) {
-        Err((source, CodecError::Memory)) => {
-            ShardState::open(alloc, codec, source, array, &options)
-        }
+    match ShardState::open(alloc, codec, source, array) {
+        Err((source, CodecError::Memory)) => ShardState::open(alloc, codec, source, array),
         said => said,
     }
 }
 
 /// What steps give over the shard of an array.
-fn over_shard<I: ArrayToBytesCodecTraits, X: ArrayToBytesCodecTraits>(
-    alloc: Global,
-    codec: &ShardingCodec<I, X>,
-    rest: &str,
-) -> Result<String> {
+fn over_shard<
+    R: Threads + Sync,
+    I: ArrayToBytesCodecTraits + Sync,
+    X: ArrayToBytesCodecTraits + Sync,
+>(rt: &R, alloc: Global, codec: &ShardingCodec<I, X>, rest: &str) -> Result<String> {
     let (array, rest) = array_in(alloc, rest)?;
     let (value, steps) = cut(rest)?;
     let source = counting_in(alloc, value)?;
-    over_source(alloc, codec, &array, source, steps)
+    over_source(rt, alloc, codec, &array, source, steps)
 }
 
-fn over_source<I: ArrayToBytesCodecTraits, X: ArrayToBytesCodecTraits>(
+fn over_source<
+    R: Threads + Sync,
+    I: ArrayToBytesCodecTraits + Sync,
+    X: ArrayToBytesCodecTraits + Sync,
+>(
+    rt: &R,
     alloc: Global,
     codec: &ShardingCodec<I, X>,
     array: &Array,
@@ -70,52 +79,90 @@ fn over_source<I: ArrayToBytesCodecTraits, X: ArrayToBytesCodecTraits>(
     let (elements, shape) = (&array.elements, array.shape.as_slice());
     let whole = WholeArray { elements, shape };
     match open(alloc, codec, source, whole) {
-        Ok(state) => taken(alloc, state, elements.data_type(), steps),
+        Ok(state) => taken(rt, alloc, state, elements.data_type(), steps),
         Err((source, error)) => left_by(alloc, &error, source),
     }
 }
 
-fn taken<I: ArrayToBytesCodecTraits, X: ArrayToBytesCodecTraits>(
+fn taken<R: Threads + Sync, I: ArrayToBytesCodecTraits + Sync, X: ArrayToBytesCodecTraits + Sync>(
+    rt: &R,
     alloc: Global,
     state: ShardState<'_, I, X, CountingSource>,
     data_type: &DataType,
     steps: &str,
 ) -> Result<String> {
     let mut kept = Kept { state, data_type };
-    let mut all = take_all(alloc, &mut kept, steps)?;
+    let mut all = kept.take_all(rt, alloc, steps)?;
     let Kept { state, .. } = kept;
     push_word(&mut all, left(alloc, state.into_source())?.as_str())?;
     Ok(all)
 }
 
-impl<I: ArrayToBytesCodecTraits, X: ArrayToBytesCodecTraits> TakesSteps for Kept<'_, I, X> {
+impl<I: ArrayToBytesCodecTraits + Sync, X: ArrayToBytesCodecTraits + Sync> Kept<'_, I, X> {
+    /// What steps give, with a space between them.
+    fn take_all<R: Threads + Sync>(
+        &mut self,
+        rt: &R,
+        alloc: Global,
+        steps: &str,
+    ) -> Result<String> {
+        let mut all = String::new(alloc);
+        let mut before = none_taken(alloc);
+        for step in steps.split(" | ") {
+            let given = self.take_at_last(rt, alloc, step, &before)?;
+            push_word(&mut all, given.as_str())?;
+            before = Taken { step, given };
+        }
+        Ok(all)
+    }
+
+    /// What a step gives, which is taken once more where memory ran out. A read right before it
+    /// still gives then what it gave.
+    fn take_at_last<R: Threads + Sync>(
+        &mut self,
+        rt: &R,
+        alloc: Global,
+        step: &str,
+        before: &Taken<'_>,
+    ) -> Result<String> {
+        let given = self.take(rt, alloc, step)?;
+        if !lacks_memory(given.as_str()) {
+            return Ok(given);
+        }
+        if is_read(before.step) {
+            stays(before, self.take(rt, alloc, before.step)?.as_str())?;
+        }
+        self.take(rt, alloc, step)
+    }
+
     /// Takes `erase`, `read PLACES` or `put PLACES = ELEMENTS`.
-    fn take(&mut self, alloc: Global, step: &str) -> Result<String> {
+    fn take<R: Threads + Sync>(&mut self, rt: &R, alloc: Global, step: &str) -> Result<String> {
         match step.split_once(' ') {
             None => done(alloc, self.state.erase(alloc)),
-            Some(("read", places)) => self.read(alloc, places),
-            Some((_put, rest)) => self.put(alloc, rest),
+            Some(("read", places)) => self.read(rt, alloc, places),
+            Some((_put, rest)) => self.put(rt, alloc, rest),
         }
     }
-}
 
-impl<I: ArrayToBytesCodecTraits, X: ArrayToBytesCodecTraits> Kept<'_, I, X> {
-    fn read(&mut self, alloc: Global, places: &str) -> Result<String> {
+    fn read<R: Threads + Sync>(&mut self, rt: &R, alloc: Global, places: &str) -> Result<String> {
         let (places, options) = (places_in(alloc, places)?, CodecOptions::default());
-        match self.state.partial_decode(alloc, places.indexer(), &options) {
+        match self
+            .state
+            .partial_decode(rt, alloc, places.indexer(), &options)
+        {
             Ok(cells) => json(alloc, self.data_type, &cells),
             Err(error) => refused(alloc, &error),
         }
     }
 
-    fn put(&mut self, alloc: Global, rest: &str) -> Result<String> {
+    fn put<R: Threads + Sync>(&mut self, rt: &R, alloc: Global, rest: &str) -> Result<String> {
         let (places, cells) = rest.split_once(" = ").context("a put has no elements")?;
         let places = places_in(alloc, places)?;
         let cells = given_in(alloc, self.data_type, cells)?;
         let options = CodecOptions::default();
         let put = self
             .state
-            .partial_encode(alloc, places.indexer(), cells, &options);
+            .partial_encode(rt, alloc, places.indexer(), cells, &options);
         done(alloc, put)
     }
 }

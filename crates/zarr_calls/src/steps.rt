@@ -1,57 +1,36 @@
 //! Steps that are taken over a shard, one after another.
 use anyhow::{Result, bail};
 use std::alloc::Global;
-use zarr_calls_grids::words::push_word;
-
-/// What takes steps, each of which a text says.
-pub(crate) trait TakesSteps {
-    /// What a step gives.
-    fn take(&mut self, alloc: Global, step: &str) -> Result<String>;
-}
 
 /// A step that was taken, and what it gave.
 #[derive(Drop)]
-struct Taken<'s> {
-    step: &'s str,
-    given: String,
+pub(crate) struct Taken<'x> {
+    pub(crate) step: &'x str,
+    pub(crate) given: String,
 }
 
-/// What a step gives, which is taken once more where memory ran out. A read right before it still
-/// gives then what it gave.
-fn take_at_last<T: TakesSteps>(
-    alloc: Global,
-    opened: &mut T,
-    step: &str,
-    before: &Taken<'_>,
-) -> Result<String> {
-    let given = opened.take(alloc, step)?;
-    if given.as_str() != "refused Memory" {
-        return Ok(given);
-    }
-    if before.step.starts_with("read ") {
-        let still = opened.take(alloc, before.step)?;
-        if still.as_str() != before.given.as_str() {
-            bail!("a step that was refused changed cells");
-        }
-    }
-    opened.take(alloc, step)
-}
-
-/// What steps give, with a space between them.
-pub(crate) fn take_all<T: TakesSteps>(
-    alloc: Global,
-    opened: &mut T,
-    steps: &str,
-) -> Result<String> {
-    let mut all = String::new(alloc);
-    let mut before = Taken {
+/// No step.
+pub(crate) fn none_taken<'x>(alloc: Global) -> Taken<'x> {
+    Taken {
         step: "",
         given: String::new(alloc),
-    };
-    for step in steps.split(" | ") {
-        let given = take_at_last(alloc, opened, step, &before)?;
-        push_word(&mut all, given.as_str())?;
-        before = Taken { step, given };
     }
-    Ok(all)
+}
+
+/// Whether memory ran out in the step that gave this.
+pub(crate) fn lacks_memory(given: &str) -> bool {
+    given == "refused Memory"
+}
+
+/// Whether a step reads, so that it gives the same once more.
+pub(crate) fn is_read(step: &str) -> bool {
+    step.starts_with("read ")
+}
+
+/// Fails where a step that was taken once more gave something else than before.
+pub(crate) fn stays(before: &Taken<'_>, given: &str) -> Result<()> {
+    if given != before.given.as_str() {
+        bail!("a step that was refused changed cells");
+    }
+    Ok(())
 }

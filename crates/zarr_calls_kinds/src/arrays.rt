@@ -4,10 +4,12 @@ use crate::raw::raw;
 use crate::types::elements_in;
 use anyhow::Result;
 use std::alloc::Global;
+use std::marker::Sync;
+use std::thread::Threads;
 use zarr_calls_grids::words::{bytes_in, cut, digits, numbers_in, refused, word};
 use zarr_codecs_arrays::{ArrayBytes, CodecError, Elements};
 use zarr_codecs_options::CodecOptions;
-use zarr_codecs_traits::ArrayToBytesCodecTraits;
+use zarr_codecs_traits::{ArrayToBytesCodecTraits, WholeArray};
 use zarr_codecs_types::DataType;
 
 /// An array that a chain may encode: its elements and its shape.
@@ -17,18 +19,27 @@ pub struct Array {
     pub shape: Vec<u64>,
 }
 
+/// The array as codecs take it.
+pub(crate) fn whole(array: &Array) -> WholeArray<'_> {
+    WholeArray {
+        elements: &array.elements,
+        shape: array.shape.as_slice(),
+    }
+}
+
 /// What a call on whole arrays gives.
-pub(crate) fn answer<C: ArrayToBytesCodecTraits>(
+pub(crate) fn answer<R: Threads + Sync, C: ArrayToBytesCodecTraits + Sync>(
+    rt: &R,
     alloc: Global,
     chain: &C,
     name: &str,
     rest: &str,
 ) -> Option<Result<String>> {
     match name {
-        "encode" => Some(encode(alloc, chain, rest)),
-        "decode" => Some(decode(alloc, chain, rest, false)),
-        "decode_raw" => Some(decode(alloc, chain, rest, true)),
-        "compact" => Some(compact(alloc, chain, rest)),
+        "encode" => Some(encode(rt, alloc, chain, rest)),
+        "decode" => Some(decode(rt, alloc, chain, rest, false)),
+        "decode_raw" => Some(decode(rt, alloc, chain, rest, true)),
+        "compact" => Some(compact(rt, alloc, chain, rest)),
         _ => None,
     }
 }
@@ -49,39 +60,45 @@ fn shaped(alloc: Global, elements: Elements, shape: &str) -> Result<Array> {
 }
 
 /// What cells are encoded to.
-fn encoded<C: ArrayToBytesCodecTraits>(
+fn encoded<R: Threads + Sync, C: ArrayToBytesCodecTraits + Sync>(
+    rt: &R,
     alloc: Global,
     chain: &C,
     array: &Array,
     cells: ArrayBytes,
 ) -> Result<Vec<u8>, CodecError> {
-    let (shape, options) = (array.shape.as_slice(), CodecOptions::default());
-    chain.encode(alloc, cells, &array.elements, shape, &options)
+    chain.encode(rt, alloc, cells, whole(array), &CodecOptions::default())
 }
 
 /// The value of cells.
-fn encode<C: ArrayToBytesCodecTraits>(alloc: Global, chain: &C, rest: &str) -> Result<String> {
+fn encode<R: Threads + Sync, C: ArrayToBytesCodecTraits + Sync>(
+    rt: &R,
+    alloc: Global,
+    chain: &C,
+    rest: &str,
+) -> Result<String> {
     let (array, cells) = array_in(alloc, rest)?;
     let cells = given_in(alloc, array.elements.data_type(), cells)?;
-    match encoded(alloc, chain, &array, cells) {
+    match encoded(rt, alloc, chain, &array, cells) {
         Ok(value) => digits(alloc, value.as_slice()),
         Err(error) => refused(alloc, &error),
     }
 }
 
 /// What a value is decoded to.
-fn decoded<C: ArrayToBytesCodecTraits>(
+fn decoded<R: Threads + Sync, C: ArrayToBytesCodecTraits + Sync>(
+    rt: &R,
     alloc: Global,
     chain: &C,
     array: &Array,
     value: Vec<u8>,
 ) -> Result<ArrayBytes, CodecError> {
-    let (shape, options) = (array.shape.as_slice(), CodecOptions::default());
-    chain.decode(alloc, value, &array.elements, shape, &options)
+    chain.decode(rt, alloc, value, whole(array), &CodecOptions::default())
 }
 
 /// The cells of a value, as JSON or by their bytes.
-fn decode<C: ArrayToBytesCodecTraits>(
+fn decode<R: Threads + Sync, C: ArrayToBytesCodecTraits + Sync>(
+    rt: &R,
     alloc: Global,
     chain: &C,
     rest: &str,
@@ -89,7 +106,7 @@ fn decode<C: ArrayToBytesCodecTraits>(
 ) -> Result<String> {
     let (array, value) = array_in(alloc, rest)?;
     let value = bytes_in(alloc, value)?;
-    match decoded(alloc, chain, &array, value) {
+    match decoded(rt, alloc, chain, &array, value) {
         Ok(cells) => told(alloc, array.elements.data_type(), &cells, is_raw),
         Err(error) => refused(alloc, &error),
     }
@@ -104,21 +121,26 @@ fn told(alloc: Global, data_type: &DataType, cells: &ArrayBytes, is_raw: bool) -
 }
 
 /// What a value is compacted to.
-fn compacted<C: ArrayToBytesCodecTraits>(
+fn compacted<R: Threads + Sync, C: ArrayToBytesCodecTraits + Sync>(
+    rt: &R,
     alloc: Global,
     chain: &C,
     array: &Array,
     value: &[u8],
 ) -> Result<Option<Vec<u8>>, CodecError> {
-    let (shape, options) = (array.shape.as_slice(), CodecOptions::default());
-    chain.compact(alloc, value, &array.elements, shape, &options)
+    chain.compact(rt, alloc, value, whole(array), &CodecOptions::default())
 }
 
 /// The value with what it holds of shards written anew, or `none` where nothing is gained.
-fn compact<C: ArrayToBytesCodecTraits>(alloc: Global, chain: &C, rest: &str) -> Result<String> {
+fn compact<R: Threads + Sync, C: ArrayToBytesCodecTraits + Sync>(
+    rt: &R,
+    alloc: Global,
+    chain: &C,
+    rest: &str,
+) -> Result<String> {
     let (array, value) = array_in(alloc, rest)?;
     let value = bytes_in(alloc, value)?;
-    match compacted(alloc, chain, &array, value.as_slice()) {
+    match compacted(rt, alloc, chain, &array, value.as_slice()) {
         Ok(compacted) => digits_or_none(alloc, &compacted),
         Err(error) => refused(alloc, &error),
     }

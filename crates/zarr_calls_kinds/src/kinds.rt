@@ -2,6 +2,8 @@
 use crate::{arrays, elements, parts, shapes, sources, telling, types};
 use anyhow::{Result, bail};
 use std::alloc::Global;
+use std::marker::Sync;
+use std::thread::Threads;
 use zarr_codecs_traits::ArrayToBytesCodecTraits;
 
 /// What a call of types, elements, shapes or sources gives, or `None` where the name is that of no
@@ -20,7 +22,8 @@ pub fn answer(alloc: Global, name: &str, rest: &str) -> Option<Result<String>> {
 }
 
 /// What a call of a chain gives, whose other arguments are `rest`.
-pub fn answer_of_chain<C: ArrayToBytesCodecTraits>(
+pub fn answer_of_chain<R: Threads + Sync, C: ArrayToBytesCodecTraits + Sync>(
+    rt: &R,
     alloc: Global,
     chain: &C,
     name: &str,
@@ -31,10 +34,10 @@ pub fn answer_of_chain<C: ArrayToBytesCodecTraits>(
     }
     // Elements go through a copy, so each such call shows that a copy answers alike.
     let copy = chain.try_clone(alloc)?;
-    if let Some(answer) = arrays::answer(alloc, &copy, name, rest) {
+    if let Some(answer) = arrays::answer(rt, alloc, &copy, name, rest) {
         return answer;
     }
-    if let Some(answer) = parts::answer(alloc, &copy, name, rest) {
+    if let Some(answer) = parts::answer(rt, alloc, &copy, name, rest) {
         return answer;
     }
     bail!("there is no such call: {name}")

@@ -1,10 +1,12 @@
 //! Parts of arrays, read from values and written into them.
-use crate::arrays::{Array, array_in};
+use crate::arrays::{Array, array_in, whole};
 use crate::counting_source::CountingSource;
 use crate::elements::{given_in, json};
 use crate::sources::{counting_in, value_of};
 use anyhow::{Context, Result};
 use std::alloc::Global;
+use std::marker::Sync;
+use std::thread::Threads;
 use zarr_calls_grids::words::{
     box_in, bytes_in, counted, cut, digits, numbers_in, push_word, refused, word,
 };
@@ -12,22 +14,23 @@ use zarr_codecs_arrays::{ArrayBytes, CodecError};
 use zarr_codecs_coders::{CodecPartialDecoder, CodecPartialEncoder};
 use zarr_codecs_options::CodecOptions;
 use zarr_codecs_traits::{
-    ArrayPart, ArrayToBytesCodecTraits, Indexer, TargetBytes, ValuePatch, ValuePatches, WholeArray,
+    ArrayPart, ArrayToBytesCodecTraits, Indexer, TargetBytes, ValuePatch, ValuePatches,
 };
 use zarr_codecs_types::DataType;
 use zarr_grids_boxes::ArraySubset;
 
 /// What a call on parts gives.
-pub(crate) fn answer<C: ArrayToBytesCodecTraits>(
+pub(crate) fn answer<R: Threads + Sync, C: ArrayToBytesCodecTraits + Sync>(
+    rt: &R,
     alloc: Global,
     chain: &C,
     name: &str,
     rest: &str,
 ) -> Option<Result<String>> {
     match name {
-        "read" => Some(read(alloc, chain, rest)),
-        "into" => Some(into(alloc, chain, rest)),
-        "put" => Some(put(alloc, chain, rest)),
+        "read" => Some(read(rt, alloc, chain, rest)),
+        "into" => Some(into(rt, alloc, chain, rest)),
+        "put" => Some(put(rt, alloc, chain, rest)),
         "patches" => Some(patches(alloc, chain, rest)),
         _ => None,
     }
@@ -89,44 +92,43 @@ fn asked(part: &Part) -> ArrayPart<'_> {
     }
 }
 
-/// The array of a part as coders take it.
-fn whole(part: &Part) -> WholeArray<'_> {
-    WholeArray {
-        elements: &part.array.elements,
-        shape: part.array.shape.as_slice(),
-    }
-}
-
 /// The cells of a part, by the decoder of its array, which is asked once more where memory ran out.
-fn cells_of<C: ArrayToBytesCodecTraits>(
+fn cells_of<R: Threads + Sync, C: ArrayToBytesCodecTraits + Sync>(
+    rt: &R,
     alloc: Global,
     chain: &C,
     part: &Part,
     source: &mut CountingSource,
 ) -> Result<ArrayBytes, CodecError> {
     let (options, asked) = (CodecOptions::default(), part.places.indexer());
-    let mut decoder = CodecPartialDecoder::new(chain, source, whole(part));
-    match decoder.partial_decode(alloc, asked, &options) {
-        Err(CodecError::Memory) => decoder.partial_decode(alloc, asked, &options),
+    let mut decoder = CodecPartialDecoder::new(chain, source, whole(&part.array));
+    match decoder.partial_decode(rt, alloc, asked, &options) {
+        Err(CodecError::Memory) => decoder.partial_decode(rt, alloc, asked, &options),
         said => said,
     }
 }
 
 /// The cells at places that are read of a value, how many calls read it, and how many bytes these
 /// took.
-fn read<C: ArrayToBytesCodecTraits>(alloc: Global, chain: &C, rest: &str) -> Result<String> {
+fn read<R: Threads + Sync, C: ArrayToBytesCodecTraits + Sync>(
+    rt: &R,
+    alloc: Global,
+    chain: &C,
+    rest: &str,
+) -> Result<String> {
     let (part, value) = part_in(alloc, rest)?;
     let mut source = counting_in(alloc, value)?;
-    read_of(alloc, chain, &part, &mut source)
+    read_of(rt, alloc, chain, &part, &mut source)
 }
 
-fn read_of<C: ArrayToBytesCodecTraits>(
+fn read_of<R: Threads + Sync, C: ArrayToBytesCodecTraits + Sync>(
+    rt: &R,
     alloc: Global,
     chain: &C,
     part: &Part,
     source: &mut CountingSource,
 ) -> Result<String> {
-    match cells_of(alloc, chain, part, source) {
+    match cells_of(rt, alloc, chain, part, source) {
         Ok(cells) => told(alloc, part.array.elements.data_type(), &cells, source),
         Err(error) => refused(alloc, &error),
     }
@@ -147,7 +149,8 @@ fn told(
 
 /// Puts cells at the places of a part, by the encoder of its array, which is asked once more where
 /// memory ran out.
-fn put_cells<C: ArrayToBytesCodecTraits>(
+fn put_cells<R: Threads + Sync, C: ArrayToBytesCodecTraits + Sync>(
+    rt: &R,
     alloc: Global,
     chain: &C,
     part: &Part,
@@ -156,23 +159,29 @@ fn put_cells<C: ArrayToBytesCodecTraits>(
 ) -> Result<(), CodecError> {
     let (options, places) = (CodecOptions::default(), part.places.indexer());
     let (cells, again) = cells;
-    let mut encoder = CodecPartialEncoder::new(chain, source, whole(part));
-    match encoder.partial_encode(alloc, places, cells, &options) {
-        Err(CodecError::Memory) => encoder.partial_encode(alloc, places, again, &options),
+    let mut encoder = CodecPartialEncoder::new(chain, source, whole(&part.array));
+    match encoder.partial_encode(rt, alloc, places, cells, &options) {
+        Err(CodecError::Memory) => encoder.partial_encode(rt, alloc, places, again, &options),
         said => said,
     }
 }
 
 /// The value once cells are put at places, how many calls wrote it, how many bytes were read to do
 /// so, and by how many calls.
-fn put<C: ArrayToBytesCodecTraits>(alloc: Global, chain: &C, rest: &str) -> Result<String> {
+fn put<R: Threads + Sync, C: ArrayToBytesCodecTraits + Sync>(
+    rt: &R,
+    alloc: Global,
+    chain: &C,
+    rest: &str,
+) -> Result<String> {
     let (part, rest) = part_in(alloc, rest)?;
     let (value, cells) = cut(rest)?;
     let cells = given_in(alloc, part.array.elements.data_type(), cells)?;
-    put_into(alloc, chain, &part, cells, value)
+    put_into(rt, alloc, chain, &part, cells, value)
 }
 
-fn put_into<C: ArrayToBytesCodecTraits>(
+fn put_into<R: Threads + Sync, C: ArrayToBytesCodecTraits + Sync>(
+    rt: &R,
     alloc: Global,
     chain: &C,
     part: &Part,
@@ -181,7 +190,7 @@ fn put_into<C: ArrayToBytesCodecTraits>(
 ) -> Result<String> {
     let again = cells.try_clone(alloc)?;
     let mut source = counting_in(alloc, value)?;
-    match put_cells(alloc, chain, part, &mut source, (cells, again)) {
+    match put_cells(rt, alloc, chain, part, &mut source, (cells, again)) {
         Ok(()) => left(alloc, source),
         Err(error) => left_by(alloc, &error, source),
     }
@@ -203,7 +212,8 @@ pub fn left_by(alloc: Global, error: &CodecError, source: CountingSource) -> Res
 }
 
 /// Puts cells, of a byte each, over all bytes but the first and the last one.
-fn put_over<C: ArrayToBytesCodecTraits>(
+fn put_over<R: Threads + Sync, C: ArrayToBytesCodecTraits + Sync>(
+    rt: &R,
     alloc: Global,
     decoder: &mut CodecPartialDecoder<'_, C, CountingSource>,
     places: &Places,
@@ -218,6 +228,7 @@ fn put_over<C: ArrayToBytesCodecTraits>(
         width: 1,
     };
     decoder.partial_decode_into(
+        rt,
         alloc,
         places.indexer(),
         &mut target,
@@ -227,16 +238,17 @@ fn put_over<C: ArrayToBytesCodecTraits>(
 
 /// Some bytes once cells are put over those inside, by a decoder that is asked once more where
 /// memory ran out and left them.
-fn put_over_at_last<C: ArrayToBytesCodecTraits>(
+fn put_over_at_last<R: Threads + Sync, C: ArrayToBytesCodecTraits + Sync>(
+    rt: &R,
     alloc: Global,
     decoder: &mut CodecPartialDecoder<'_, C, CountingSource>,
     places: &Places,
     text: &str,
 ) -> Result<String> {
     let (old, mut bytes) = (bytes_in(alloc, text)?, bytes_in(alloc, text)?);
-    let mut done = put_over(alloc, decoder, places, bytes.as_mut_slice());
+    let mut done = put_over(rt, alloc, decoder, places, bytes.as_mut_slice());
     if matches!(done, Err(CodecError::Memory)) && bytes.as_slice() == old.as_slice() {
-        done = put_over(alloc, decoder, places, bytes.as_mut_slice());
+        done = put_over(rt, alloc, decoder, places, bytes.as_mut_slice());
     }
     put_or_not(alloc, bytes.as_slice(), done)
 }
@@ -251,12 +263,17 @@ pub fn put_or_not(alloc: Global, bytes: &[u8], done: Result<(), CodecError>) -> 
 }
 
 /// Some bytes once the cells of a part of a value are put over those inside.
-fn into<C: ArrayToBytesCodecTraits>(alloc: Global, chain: &C, rest: &str) -> Result<String> {
+fn into<R: Threads + Sync, C: ArrayToBytesCodecTraits + Sync>(
+    rt: &R,
+    alloc: Global,
+    chain: &C,
+    rest: &str,
+) -> Result<String> {
     let (part, rest) = part_in(alloc, rest)?;
     let (value, bytes) = cut(rest)?;
     let mut source = counting_in(alloc, value)?;
-    let mut decoder = CodecPartialDecoder::new(chain, &mut source, whole(&part));
-    put_over_at_last(alloc, &mut decoder, &part.places, bytes)
+    let mut decoder = CodecPartialDecoder::new(chain, &mut source, whole(&part.array));
+    put_over_at_last(rt, alloc, &mut decoder, &part.places, bytes)
 }
 
 /// What is written for cells at the places of a part.
@@ -266,8 +283,7 @@ fn patches_for<C: ArrayToBytesCodecTraits>(
     part: &Part,
     cells: ArrayBytes,
 ) -> Result<Option<ValuePatches>, CodecError> {
-    let options = CodecOptions::default();
-    chain.encode_patches(alloc, cells, asked(part), &options)
+    chain.encode_patches(alloc, cells, asked(part))
 }
 
 /// The ranges that are written for cells at places.

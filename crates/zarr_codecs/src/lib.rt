@@ -43,10 +43,11 @@ pub use zarr_codecs_packbits::{
 pub use zarr_codecs_regions::{copy_fill_value_into, extract_array_subset, update_array_bytes};
 pub use zarr_codecs_sections::{VlenIndexDataType, VlenIndexLocation};
 pub use zarr_codecs_traits::{
-    ArrayBytesDecodeIntoTarget, ArrayPart, ArrayToArrayCodecTraits, ArrayToBytesCodecTraits,
-    ByteRange, BytesPartialDecoderTraits, BytesPartialEncoderTraits, BytesRepresentation,
-    BytesToBytesCodecTraits, Indexer, IntervalSource, MemorySource, OptionalTarget, TargetBytes,
-    ValuePatch, ValuePatches, WholeArray,
+    ArrayBytesDecodeIntoTarget, ArrayPart, ArrayPieces, ArrayToArrayCodecTraits,
+    ArrayToBytesCodecTraits, ByteRange, BytesPartialDecoderTraits, BytesPartialEncoderTraits,
+    BytesRepresentation, BytesToBytesCodecTraits, EncodedArray, GivenPart, Indexer, IntervalSource,
+    MemorySource, OptionalTarget, PiecePlaces, PieceSlice, SplitArray, SplitValue, TargetBytes,
+    ValuePatch, ValuePatches, ValuePieces, WholeArray,
 };
 pub use zarr_codecs_types::{
     Cell, Component, DataType, DataTypeError, FillValue, FillValueError, Sign, data_type,

@@ -13,6 +13,7 @@ use Rattle.zarr_codecs_arrays.specs.declared.array_bytes.ArrayBytes.{ArrayBytes}
 use Rattle.zarr_codecs_arrays.specs.declared.error.CodecError.{CodecError}
 use Rattle.zarr_codecs_arrays.specs.declared.error.CodecError.TheVariants as error
 use Rattle.zarr_codecs_array_to_array.specs.declared.codec.ArrayToArrayCodec.{ArrayToArrayCodec}
+use Rattle.zarr_codecs_traits.specs.Arrays.{coded}
 use Rattle.zarr_codecs_traits.specs.Outcomes.{UndoesBytes, Encodes, Decodes, EncodesShape, IsMoved, EncodesArray, DecodesArray}
 use Rattle.zarr_codecs_traits.specs.Representations.{RepresentsArray}
 use Rattle.zarr_codecs_traits.specs.declared.bytes_representation.BytesRepresentation.{BytesRepresentation}
@@ -108,8 +109,8 @@ pub undoes_unshaped : (codec : ArrayCodec) (codecs : List ArrayCodec) (elements 
 undoes_unshaped codec codecs elements shape found e h = λ chain value _. unshaped_decoding codec (with_array_codecs codecs chain) elements shape value e h
 
 -- what a chain does not decode, it does not decode with array codecs before it
-pub undecoded_all : (codecs : List ArrayCodec) (chain : Chain) (elements : Elements) (shape value : List ℕ) (e : CodecError) → all_fit codecs shape ≡ true → Decodes chain elements (shape_after codecs shape) value (Err e)
-    → Decodes (with_array_codecs codecs chain) elements shape value (Err e)
+pub undecoded_all : (codecs : List ArrayCodec) (chain : Chain) (elements : Elements) (shape value : List ℕ) (e : CodecError) → all_fit codecs shape ≡ true → Decodes (coded chain elements (shape_after codecs shape)) value (Err e)
+    → Decodes (coded (with_array_codecs codecs chain) elements shape) value (Err e)
 undecoded_all [] chain elements shape value e all h = h
 undecoded_all (codec ∷ codecs) chain elements shape value e all h =
     let two = and_parts (array_codec_fits codec shape) (all_fit codecs (encoded_shape codec shape)) all in
@@ -135,15 +136,15 @@ fit_more (codec ∷ first) last shape =
 pub undoes_more : (first last : List ArrayCodec) (elements : Elements) (shape : List ℕ) (found moved : ArrayBytes) (r : Result ArrayBytes CodecError) → UndoesAll last elements (shape_after first shape) found (Ok moved) → UndoesAll first elements shape moved r
     → UndoesAll (first ++ last) elements shape found r
 undoes_more first last elements shape found moved r second one = λ chain value h.
-    subst (λ (whole : Chain). Decodes whole elements shape value r) (sym (with_more first last chain))
-    (one (with_array_codecs last chain) value (second chain value (subst (λ es. Decodes chain elements es value (Ok found)) (shape_more first last shape) h)))
+    subst (λ (whole : Chain). Decodes (coded whole elements shape) value r) (sym (with_more first last chain))
+    (one (with_array_codecs last chain) value (second chain value (subst (λ es. Decodes (coded chain elements es) value (Ok found)) (shape_more first last shape) h)))
 
 -- or that the last did not
 pub undoes_none : (first last : List ArrayCodec) (elements : Elements) (shape : List ℕ) (found : ArrayBytes) (e : CodecError) → all_fit first shape ≡ true → UndoesAll last elements (shape_after first shape) found (Err e)
     → UndoesAll (first ++ last) elements shape found (Err e)
 undoes_none first last elements shape found e all second = λ chain value h.
-    subst (λ (whole : Chain). Decodes whole elements shape value (Err e)) (sym (with_more first last chain))
-    (undecoded_all first (with_array_codecs last chain) elements shape value e all (second chain value (subst (λ es. Decodes chain elements es value (Ok found)) (shape_more first last shape) h)))
+    subst (λ (whole : Chain). Decodes (coded whole elements shape) value (Err e)) (sym (with_more first last chain))
+    (undecoded_all first (with_array_codecs last chain) elements shape value e all (second chain value (subst (λ es. Decodes (coded chain elements es) value (Ok found)) (shape_more first last shape) h)))
 
 -- ---- sizes
 
@@ -163,48 +164,48 @@ unshaped_all codecs chain type shape e h = absurd h
 -- ---- with bytes codecs behind the chain
 
 -- an array that the array codecs do not suit
-pub unshaped_encodes : (codecs : List ArrayCodec) (chain : Chain) (exact : Bool) (elements : Elements) (shape : List ℕ) (payload : Payload) (e : CodecError) → EncodesShapes codecs shape (Err e) → Encodes (with_array_codecs codecs chain) exact elements shape payload (Err e)
+pub unshaped_encodes : (codecs : List ArrayCodec) (chain : Chain) (exact : Bool) (elements : Elements) (shape : List ℕ) (payload : Payload) (e : CodecError) → EncodesShapes codecs shape (Err e) → Encodes (coded (with_array_codecs codecs chain) elements shape) exact payload (Err e)
 unshaped_encodes codecs chain exact elements shape payload error.Fit none = fits_all codecs chain elements.type shape ∙ ap (λ (b : Bool). b && fits chain elements.type (shape_after codecs shape)) none
 unshaped_encodes codecs chain exact elements shape payload error.Memory h = tt
 unshaped_encodes codecs chain exact elements shape payload e h = absurd h
 
-pub unshaped_decodes : (codecs : List ArrayCodec) (chain : Chain) (elements : Elements) (shape value : List ℕ) (e : CodecError) → EncodesShapes codecs shape (Err e) → Decodes (with_array_codecs codecs chain) elements shape value (Err e)
+pub unshaped_decodes : (codecs : List ArrayCodec) (chain : Chain) (elements : Elements) (shape value : List ℕ) (e : CodecError) → EncodesShapes codecs shape (Err e) → Decodes (coded (with_array_codecs codecs chain) elements shape) value (Err e)
 unshaped_decodes codecs chain elements shape value error.Fit none = fits_all codecs chain elements.type shape ∙ ap (λ (b : Bool). b && fits chain elements.type (shape_after codecs shape)) none
 unshaped_decodes codecs chain elements shape value error.Memory h = tt
 unshaped_decodes codecs chain elements shape value e h = absurd h
 
 pub undoes_unfit : (first last : List ArrayCodec) (elements : Elements) (shape : List ℕ) (found : ArrayBytes) (e : CodecError) → EncodesShapes first shape (Err e) → UndoesAll (first ++ last) elements shape found (Err e)
 undoes_unfit first last elements shape found e none = λ chain value h.
-    subst (λ (whole : Chain). Decodes whole elements shape value (Err e)) (sym (with_more first last chain)) (unshaped_decodes first (with_array_codecs last chain) elements shape value e none)
+    subst (λ (whole : Chain). Decodes (coded whole elements shape) value (Err e)) (sym (with_more first last chain)) (unshaped_decodes first (with_array_codecs last chain) elements shape value e none)
 
 -- what is made of elements that were moved, or not moved
 pub encodes_between : (codecs : List ArrayCodec) (chain : Chain) (after : List ByteCodec) (elements : Elements) (shape last : List ℕ) (payload : Payload) (moved : ArrayBytes) (r : Result (Vec ℕ Global) CodecError)
-    → MovesAll codecs elements shape payload (Ok moved) → last ≡ shape_after codecs shape → fits chain elements.type last ≡ true → Encodes (with_codecs chain after) true elements last (payload_of moved) r
-    → Encodes (with_array_codecs codecs (with_codecs chain after)) true elements shape payload r
+    → MovesAll codecs elements shape payload (Ok moved) → last ≡ shape_after codecs shape → fits chain elements.type last ≡ true → Encodes (coded (with_codecs chain after) elements last) true (payload_of moved) r
+    → Encodes (coded (with_array_codecs codecs (with_codecs chain after)) elements shape) true payload r
 encodes_between codecs chain after elements shape last payload moved r moves same fit h =
     let whole = with_codecs chain after in
-    moves whole true r (fits_with chain after elements.type (shape_after codecs shape) ∙ (ap (fits chain elements.type) (sym same) ∙ fit)) (subst (λ es. Encodes whole true elements es (payload_of moved) r) same h)
+    moves whole true r (fits_with chain after elements.type (shape_after codecs shape) ∙ (ap (fits chain elements.type) (sym same) ∙ fit)) (subst (λ es. Encodes (coded whole elements es) true (payload_of moved) r) same h)
 
 pub unmoved_between : (codecs : List ArrayCodec) (chain : Chain) (after : List ByteCodec) (elements : Elements) (shape last : List ℕ) (payload : Payload) (e : CodecError)
-    → MovesAll codecs elements shape payload (Err e) → last ≡ shape_after codecs shape → fits chain elements.type last ≡ true → Encodes (with_array_codecs codecs (with_codecs chain after)) true elements shape payload (Err e)
+    → MovesAll codecs elements shape payload (Err e) → last ≡ shape_after codecs shape → fits chain elements.type last ≡ true → Encodes (coded (with_array_codecs codecs (with_codecs chain after)) elements shape) true payload (Err e)
 unmoved_between codecs chain after elements shape last payload e moves same fit =
     moves (with_codecs chain after) true (fits_with chain after elements.type (shape_after codecs shape) ∙ (ap (fits chain elements.type) (sym same) ∙ fit))
 
 -- what is decoded and moved back, or not decoded
 pub decodes_between : (codecs : List ArrayCodec) (chain : Chain) (after : List ByteCodec) (elements : Elements) (shape last value inside : List ℕ) (found : ArrayBytes) (r : Result ArrayBytes CodecError)
-    → last ≡ shape_after codecs shape → all_decoded after value ≡ Some inside → Decodes chain elements last inside (Ok found) → UndoesAll codecs elements shape found r → Decodes (with_array_codecs codecs (with_codecs chain after)) elements shape value r
+    → last ≡ shape_after codecs shape → all_decoded after value ≡ Some inside → Decodes (coded chain elements last) inside (Ok found) → UndoesAll codecs elements shape found r → Decodes (coded (with_array_codecs codecs (with_codecs chain after)) elements shape) value r
 decodes_between codecs chain after elements shape last value inside found r same undone h undoes =
     let whole = with_codecs chain after in
-    undoes whole value (subst (λ es. Decodes whole elements es value (Ok found)) same (decodes_with chain after elements last value inside (Ok found) undone h))
+    undoes whole value (subst (λ es. Decodes (coded whole elements es) value (Ok found)) same (decodes_with chain after elements last value inside (Ok found) undone h))
 
 pub undecoded_between : (codecs : List ArrayCodec) (chain : Chain) (after : List ByteCodec) (elements : Elements) (shape last value inside : List ℕ) (e : CodecError)
-    → all_fit codecs shape ≡ true → last ≡ shape_after codecs shape → all_decoded after value ≡ Some inside → Decodes chain elements last inside (Err e) → Decodes (with_array_codecs codecs (with_codecs chain after)) elements shape value (Err e)
+    → all_fit codecs shape ≡ true → last ≡ shape_after codecs shape → all_decoded after value ≡ Some inside → Decodes (coded chain elements last) inside (Err e) → Decodes (coded (with_array_codecs codecs (with_codecs chain after)) elements shape) value (Err e)
 undecoded_between codecs chain after elements shape last value inside e all same undone h =
     let whole = with_codecs chain after in
-    undecoded_all codecs whole elements shape value e all (subst (λ es. Decodes whole elements es value (Err e)) same (decodes_with chain after elements last value inside (Err e) undone h))
+    undecoded_all codecs whole elements shape value e all (subst (λ es. Decodes (coded whole elements es) value (Err e)) same (decodes_with chain after elements last value inside (Err e) undone h))
 
 pub unundone_between : (codecs : List ArrayCodec) (chain : Chain) (after : List ByteCodec) (elements : Elements) (shape last value : List ℕ) (e : CodecError)
-    → all_fit codecs shape ≡ true → last ≡ shape_after codecs shape → fits chain elements.type last ≡ true → UndoesBytes (all_decoded after) value (Err e) → Decodes (with_array_codecs codecs (with_codecs chain after)) elements shape value (Err e)
+    → all_fit codecs shape ≡ true → last ≡ shape_after codecs shape → fits chain elements.type last ≡ true → UndoesBytes (all_decoded after) value (Err e) → Decodes (coded (with_array_codecs codecs (with_codecs chain after)) elements shape) value (Err e)
 unundone_between codecs chain after elements shape last value e all same fit h =
     let whole = with_codecs chain after in
-    undecoded_all codecs whole elements shape value e all (subst (λ es. Decodes whole elements es value (Err e)) same (undone_with chain after elements last value e fit h))
+    undecoded_all codecs whole elements shape value e all (subst (λ es. Decodes (coded whole elements es) value (Err e)) same (undone_with chain after elements last value e fit h))

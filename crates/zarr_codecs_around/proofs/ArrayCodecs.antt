@@ -25,6 +25,7 @@ use Rattle.zarr_codecs_arrays.specs.declared.error.CodecError.{CodecError}
 use Rattle.zarr_codecs_arrays.specs.declared.error.CodecError.TheVariants as error
 use Rattle.zarr_codecs_array_to_array.specs.Moving.{are_places, moved_numbers}
 use Rattle.zarr_codecs_traits.specs.Indexers.{Asked, listed}
+use Rattle.zarr_codecs_traits.specs.Arrays.{coded}
 use Rattle.zarr_codecs_traits.specs.Outcomes.{Encodes, Decodes, DecodesPart, EncodesShape, IsMoved, EncodesArray, DecodesArray}
 use Rattle.zarr_codecs_traits.specs.Representations.{RepresentsArray}
 use Rattle.zarr_codecs_traits.specs.declared.bytes_representation.BytesRepresentation.{BytesRepresentation}
@@ -77,7 +78,7 @@ moved_counted codec elements shape payload made m = record { lists = m.lists; ma
 -- what the other codecs make of what the first made
 pub encodes_after : (codec : ArrayCodec) (chain : Chain) (exact : Bool) (elements : Elements) (shape : List ℕ) (payload made : Payload) (r : Result (Vec ℕ Global) CodecError) → is_value elements.type elements.fill ≡ true
     → fits chain elements.type (encoded_shape codec shape) ≡ true → IsMoved codec elements shape (product shape) (source_places codec shape) payload made
-    → Encodes chain exact elements (encoded_shape codec shape) made r → Encodes (after_array_codec codec chain) exact elements shape payload r
+    → Encodes (coded chain elements (encoded_shape codec shape)) exact made r → Encodes (coded (after_array_codec codec chain) elements shape) exact payload r
 encodes_after codec chain exact elements shape payload made (Ok value) fill fit m h =
     let same : h.0 ≡ gather elements.fill m.cells (source_places codec shape) = some_same (sym h.1.valid.is.lists ∙ m.lists) in (
       m.cells,
@@ -104,7 +105,7 @@ encodes_after codec chain exact elements shape payload made (Err e) fill fit m h
 
 -- what the first codec refuses
 pub unencoded_after : (codec : ArrayCodec) (chain : Chain) (exact : Bool) (elements : Elements) (shape : List ℕ) (payload : Payload) (e : CodecError) → fits (after_array_codec codec chain) elements.type shape ≡ true
-    → EncodesArray codec elements shape payload (Err e) → Encodes (after_array_codec codec chain) exact elements shape payload (Err e)
+    → EncodesArray codec elements shape payload (Err e) → Encodes (coded (after_array_codec codec chain) elements shape) exact payload (Err e)
 unencoded_after codec chain exact elements shape payload error.Fit fit h = unfit_first codec chain elements.type shape h
 unencoded_after codec chain exact elements shape payload error.Codec fit h = absurd h.1
 unencoded_after codec chain exact elements shape payload error.Size fit h = inl h
@@ -112,7 +113,7 @@ unencoded_after codec chain exact elements shape payload error.Memory fit h = tt
 unencoded_after codec chain exact elements shape payload e fit h = (fit, h.1)
 
 -- a shape that the first codec does not suit
-pub unshaped_encoding : (codec : ArrayCodec) (chain : Chain) (exact : Bool) (elements : Elements) (shape : List ℕ) (payload : Payload) (e : CodecError) → EncodesShape codec shape (Err e) → Encodes (after_array_codec codec chain) exact elements shape payload (Err e)
+pub unshaped_encoding : (codec : ArrayCodec) (chain : Chain) (exact : Bool) (elements : Elements) (shape : List ℕ) (payload : Payload) (e : CodecError) → EncodesShape codec shape (Err e) → Encodes (coded (after_array_codec codec chain) elements shape) exact payload (Err e)
 unshaped_encoding codec chain exact elements shape payload error.Fit h = unfit_first codec chain elements.type shape h
 unshaped_encoding codec chain exact elements shape payload error.Memory h = tt
 unshaped_encoding codec chain exact elements shape payload e h = absurd h
@@ -121,7 +122,7 @@ unshaped_encoding codec chain exact elements shape payload e h = absurd h
 
 -- what the first codec undoes of what the others decoded
 pub decodes_after : (codec : ArrayCodec) (chain : Chain) (elements : Elements) (shape value : List ℕ) (found : ArrayBytes) (r : Result ArrayBytes CodecError) → is_value elements.type elements.fill ≡ true → array_codec_fits codec shape ≡ true
-    → Decodes chain elements (encoded_shape codec shape) value (Ok found) → DecodesArray codec elements shape (payload_of found) r → Decodes (after_array_codec codec chain) elements shape value r
+    → Decodes (coded chain elements (encoded_shape codec shape)) value (Ok found) → DecodesArray codec elements shape (payload_of found) r → Decodes (coded (after_array_codec codec chain) elements shape) value r
 decodes_after codec chain elements shape value found (Ok made) fill fit d m =
     let same : m.cells ≡ d.cells = some_same (sym m.valid.is.lists ∙ d.lists) in record {
       cells = gather elements.fill m.cells (undone_places codec shape);
@@ -139,7 +140,7 @@ decodes_after codec chain elements shape value found (Err e) fill fit d h =
 
 -- what the other codecs do not decode
 pub undecoded_after : (codec : ArrayCodec) (chain : Chain) (elements : Elements) (shape value : List ℕ) (e : CodecError) → array_codec_fits codec shape ≡ true
-    → Decodes chain elements (encoded_shape codec shape) value (Err e) → Decodes (after_array_codec codec chain) elements shape value (Err e)
+    → Decodes (coded chain elements (encoded_shape codec shape)) value (Err e) → Decodes (coded (after_array_codec codec chain) elements shape) value (Err e)
 undecoded_after codec chain elements shape value error.Fit fit h = unfit_after codec chain elements.type shape h
 undecoded_after codec chain elements shape value error.Damage fit h =
     (fit_after codec chain elements.type shape fit h.0, ap (option_map (λ cells. gather elements.fill cells (undone_places codec shape))) h.1)
@@ -148,7 +149,7 @@ undecoded_after codec chain elements shape value error.Memory fit h = tt
 undecoded_after codec chain elements shape value e fit h = absurd h
 
 -- a shape that the first codec does not suit
-pub unshaped_decoding : (codec : ArrayCodec) (chain : Chain) (elements : Elements) (shape value : List ℕ) (e : CodecError) → EncodesShape codec shape (Err e) → Decodes (after_array_codec codec chain) elements shape value (Err e)
+pub unshaped_decoding : (codec : ArrayCodec) (chain : Chain) (elements : Elements) (shape value : List ℕ) (e : CodecError) → EncodesShape codec shape (Err e) → Decodes (coded (after_array_codec codec chain) elements shape) value (Err e)
 unshaped_decoding codec chain elements shape value error.Fit h = unfit_first codec chain elements.type shape h
 unshaped_decoding codec chain elements shape value error.Memory h = tt
 unshaped_decoding codec chain elements shape value e h = absurd h
@@ -184,7 +185,7 @@ same_part codec chain elements shape None numbers = ap Some (sym (map-map (λ pl
 same_part codec chain elements shape (Some value) numbers = part_after codec chain elements shape value numbers
 
 pub lists_after : (codec : ArrayCodec) (chain : Chain) (elements : Elements) (shape : List ℕ) (stored : Option (List ℕ)) (numbers : List ℕ) (r : Result ArrayBytes CodecError) → array_codec_fits codec shape ≡ true → are_places shape numbers ≡ true
-    → are_places (encoded_shape codec shape) (moved_numbers codec shape numbers) ≡ true → DecodesPart chain elements (encoded_shape codec shape) stored (listed (moved_numbers codec shape numbers)) r → DecodesPart (after_array_codec codec chain) elements shape stored (listed numbers) r
+    → are_places (encoded_shape codec shape) (moved_numbers codec shape numbers) ≡ true → DecodesPart (coded chain elements (encoded_shape codec shape)) stored (listed (moved_numbers codec shape numbers)) r → DecodesPart (coded (after_array_codec codec chain) elements shape) stored (listed numbers) r
 lists_after codec chain elements shape stored numbers (Ok found) fit inside moved h =
     record { cells = h.cells; fit = fit_after codec chain elements.type shape fit h.fit; inside = inside; lists = h.lists; is = same_part codec chain elements shape stored numbers ∙ h.is }
 lists_after codec chain elements shape stored numbers (Err error.Fit) fit inside moved h = unfit_after codec chain elements.type shape h
@@ -195,7 +196,7 @@ lists_after codec chain elements shape stored numbers (Err error.Source) fit ins
 lists_after codec chain elements shape stored numbers (Err error.Memory) fit inside moved h = tt
 lists_after codec chain elements shape stored numbers (Err e) fit inside moved h = absurd h
 
-pub unshaped_part : (codec : ArrayCodec) (chain : Chain) (elements : Elements) (shape : List ℕ) (stored : Option (List ℕ)) (asked : Asked) (e : CodecError) → EncodesShape codec shape (Err e) → DecodesPart (after_array_codec codec chain) elements shape stored asked (Err e)
+pub unshaped_part : (codec : ArrayCodec) (chain : Chain) (elements : Elements) (shape : List ℕ) (stored : Option (List ℕ)) (asked : Asked) (e : CodecError) → EncodesShape codec shape (Err e) → DecodesPart (coded (after_array_codec codec chain) elements shape) stored asked (Err e)
 unshaped_part codec chain elements shape stored asked error.Fit h = unfit_first codec chain elements.type shape h
 unshaped_part codec chain elements shape stored asked error.Memory h = tt
 unshaped_part codec chain elements shape stored asked e h = absurd h

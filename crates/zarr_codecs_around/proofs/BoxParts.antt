@@ -23,6 +23,7 @@ use Rattle.zarr_codecs_arrays.specs.declared.error.CodecError.TheVariants as err
 use Rattle.zarr_codecs_array_to_array.specs.Moving.{moved_numbers}
 use Rattle.zarr_codecs_traits.specs.Capabilities.{decodes_parts}
 use Rattle.zarr_codecs_traits.specs.Indexers.{in_box, numbers_asked}
+use Rattle.zarr_codecs_traits.specs.Arrays.{coded}
 use Rattle.zarr_codecs_traits.specs.Outcomes.{DecodesArray, DecodesPart}
 use Rattle.zarr_codecs_traits.specs.ReadBytes.{bytes_of_numbers, most_read}
 use Rattle.zarr_codecs_boxes.specs.Regions.{encoded_region}
@@ -91,8 +92,8 @@ box_too_large type shape region is large = more_too_large type (product region.s
 
 -- the elements of the box that the box becomes, undone as those of an array of the box's shape
 pub box_read : (codec : ArrayCodec) (chain : Chain) (elements : Elements) (shape : List ℕ) (stored : Option (List ℕ)) (region moved : Region) (found : ArrayBytes) (r : Result ArrayBytes CodecError) → is_value elements.type elements.fill ≡ true
-    → IsMovedBox codec shape region moved → DecodesPart chain elements (encoded_shape codec shape) stored (in_box moved) (Ok found) → DecodesArray codec elements region.shape (payload_of found) r
-    → DecodesPart (after_array_codec codec chain) elements shape stored (in_box region) r
+    → IsMovedBox codec shape region moved → DecodesPart (coded chain elements (encoded_shape codec shape)) stored (in_box moved) (Ok found) → DecodesArray codec elements region.shape (payload_of found) r
+    → DecodesPart (coded (after_array_codec codec chain) elements shape) stored (in_box region) r
 box_read codec chain elements shape stored region moved found (Ok made) fill b h m =
     let same : m.cells ≡ h.cells = some_same (sym m.valid.is.lists ∙ h.lists) in
     let inner = part_picked chain elements (encoded_shape codec shape) stored (numbers_asked (encoded_shape codec shape) (in_box moved)) (undone_places codec region.shape) h.cells h.is (undone_below codec shape region moved b) in
@@ -117,7 +118,7 @@ box_read codec chain elements shape stored region moved found (Err e) fill b h m
 
 -- or none
 pub box_unread : (codec : ArrayCodec) (chain : Chain) (elements : Elements) (shape : List ℕ) (stored : Option (List ℕ)) (region moved : Region) (e : CodecError)
-    → IsMovedBox codec shape region moved → DecodesPart chain elements (encoded_shape codec shape) stored (in_box moved) (Err e) → DecodesPart (after_array_codec codec chain) elements shape stored (in_box region) (Err e)
+    → IsMovedBox codec shape region moved → DecodesPart (coded chain elements (encoded_shape codec shape)) stored (in_box moved) (Err e) → DecodesPart (coded (after_array_codec codec chain) elements shape) stored (in_box region) (Err e)
 box_unread codec chain elements shape stored region moved error.Fit b h = unfit_after codec chain elements.type shape h
 box_unread codec chain elements shape stored region moved error.IncompatibleIndexer b h = absurd (let e = sym b.inside.inside ∙ h in cc)
 box_unread codec chain elements shape stored region moved error.Damage b h =

@@ -28,6 +28,7 @@ use Rattle.zarr_codecs_arrays.specs.declared.error.CodecError.TheVariants as err
 use Rattle.zarr_codecs_array_to_array.specs.Moving.{moved_numbers}
 use Rattle.zarr_codecs_traits.specs.Indexers.{in_box, listed, numbers_asked, put}
 use Rattle.zarr_codecs_traits.specs.Outcomes.{EncodesArray, IsMoved}
+use Rattle.zarr_codecs_traits.specs.Arrays.{coded, update_of}
 use Rattle.zarr_codecs_traits.specs.PartWriting.{ChunkTight, IsDamaged, IsEncodedInto, IsLostAmong, IsRefusedInto, MeetsLost, NotEncodedInto, PassesLength, StopsPart, StopsWrite, cells_after, cells_shown, only_cell}
 use Rattle.zarr_codecs_boxes.specs.Updates.{IsBoxIn}
 use Rattle.zarr_codecs_boxes.proofs.Numbers.{asked_below}
@@ -141,7 +142,7 @@ shown_count chain elements shape stored = length-map (range_with_len 0 (product 
 -- the same, by the numbers of the box's places
 written_turned : (codec : ArrayCodec) (chain : Chain) (exact : Bool) (elements : Elements) (shape : List ℕ) (region moved : Region) (payload turned : Payload) (cells : List Cell) (old new : Option (List ℕ))
     → IsMovedBox codec shape region moved → (m : IsTurned codec elements region payload turned) → cells ≡ gather elements.fill m.cells (source_places codec region.shape)
-    → IsEncodedInto chain exact elements (encoded_shape codec shape) (in_box moved) turned cells old new → IsEncodedInto chain exact elements (encoded_shape codec shape) (listed (moved_of codec shape region)) payload m.cells old new
+    → IsEncodedInto (coded chain elements (encoded_shape codec shape)) exact (update_of (in_box moved) turned old) cells new → IsEncodedInto (coded chain elements (encoded_shape codec shape)) exact (update_of (listed (moved_of codec shape region)) payload old) m.cells new
 written_turned codec chain exact elements shape region moved payload turned cells old new b m same h =
     let ns = moved_of codec shape region in
     let ks = source_places codec region.shape in
@@ -178,7 +179,7 @@ written_turned codec chain exact elements shape region moved payload turned cell
 -- elements are written where the codec moves the box
 pub box_written : (codec : ArrayCodec) (chain : Chain) (exact : Bool) (elements : Elements) (shape : List ℕ) (region moved : Region) (payload turned : Payload) (cells : List Cell) (old new : Option (List ℕ))
     → IsMovedBox codec shape region moved → (m : IsTurned codec elements region payload turned)
-    → IsEncodedInto chain exact elements (encoded_shape codec shape) (in_box moved) turned cells old new → IsEncodedInto (after_array_codec codec chain) exact elements shape (in_box region) payload m.cells old new
+    → IsEncodedInto (coded chain elements (encoded_shape codec shape)) exact (update_of (in_box moved) turned old) cells new → IsEncodedInto (coded (after_array_codec codec chain) elements shape) exact (update_of (in_box region) payload old) m.cells new
 box_written codec chain exact elements shape region moved payload turned cells old new b m h =
     let numbers = numbers_asked shape (in_box region) in
     let same : cells ≡ gather elements.fill m.cells (source_places codec region.shape) = some_same (sym h.valid.is.lists ∙ m.lists) in
@@ -189,7 +190,7 @@ box_written codec chain exact elements shape region moved payload turned cells o
 
 refused_turned : (codec : ArrayCodec) (chain : Chain) (elements : Elements) (shape : List ℕ) (region moved : Region) (payload turned : Payload) (stored : Option (List ℕ)) (refuses : List Cell → Type 0)
     → IsMovedBox codec shape region moved → IsTurned codec elements region payload turned
-    → IsRefusedInto chain elements (encoded_shape codec shape) (in_box moved) turned stored refuses → IsRefusedInto chain elements (encoded_shape codec shape) (listed (moved_of codec shape region)) payload stored refuses
+    → IsRefusedInto (coded chain elements (encoded_shape codec shape)) (update_of (in_box moved) turned stored) refuses → IsRefusedInto (coded chain elements (encoded_shape codec shape)) (update_of (listed (moved_of codec shape region)) payload stored) refuses
 refused_turned codec chain elements shape region moved payload turned stored refuses b m h =
     let ns = moved_of codec shape region in
     let after = numbers_asked (encoded_shape codec shape) (in_box moved) in
@@ -197,7 +198,7 @@ refused_turned codec chain elements shape region moved payload turned stored ref
     let shown = cells_shown chain elements (encoded_shape codec shape) stored in
     let same : h.cells ≡ gather fill m.cells (source_places codec region.shape) = some_same (sym h.valid.is.lists ∙ m.lists) in
     let whole : length (map (only_cell fill) shown) ≡ product (encoded_shape codec shape) = length-map shown (only_cell fill) ∙ shown_count chain elements (encoded_shape codec shape) stored in
-    let there : cells_after chain elements (encoded_shape codec shape) stored after h.cells ≡ cells_after chain elements (encoded_shape codec shape) stored ns m.cells =
+    let there : cells_after (coded chain elements (encoded_shape codec shape)) stored after h.cells ≡ cells_after (coded chain elements (encoded_shape codec shape)) stored ns m.cells =
     ap (λ given. put after given (map (only_cell fill) shown)) same ∙ box_put fill codec shape region moved m.cells (map (only_cell fill) shown) b (m.valid.is.many ∙ sym b.count) whole in
     record {
       cells = m.cells;
@@ -216,7 +217,7 @@ turned_valid codec elements shape region moved payload turned e fill b m why =
     (record { lists = m.lists; many = length-gather elements.fill m.cells ks ∙ (array_codec_count codec region.shape b.fits ∙ sym b.long) }) (values_gathered (is_value elements.type) elements.fill m.cells ks fill m.valid.values) why
 
 stopped_turned : (codec : ArrayCodec) (chain : Chain) (elements : Elements) (shape : List ℕ) (region moved : Region) (payload turned : Payload) (stored : Option (List ℕ)) → IsMovedBox codec shape region moved → IsTurned codec elements region payload turned
-    → StopsWrite chain elements (encoded_shape codec shape) (in_box moved) turned stored → StopsWrite chain elements (encoded_shape codec shape) (listed (moved_of codec shape region)) payload stored
+    → StopsWrite (coded chain elements (encoded_shape codec shape)) (update_of (in_box moved) turned stored) → StopsWrite (coded chain elements (encoded_shape codec shape)) (update_of (listed (moved_of codec shape region)) payload stored)
 stopped_turned codec chain elements shape region moved payload turned stored b m (inl damage) =
     inl (damaged_any chain elements (encoded_shape codec shape) stored (numbers_asked (encoded_shape codec shape) (in_box moved)) (moved_of codec shape region) (box_any codec shape region moved b) damage)
 stopped_turned codec chain elements shape region moved payload turned stored b m (inr full) =
@@ -224,7 +225,7 @@ stopped_turned codec chain elements shape region moved payload turned stored b m
 
 unwritten_turned : {A : Type 0} (codec : ArrayCodec) (chain : Chain) (elements : Elements) (shape : List ℕ) (region moved : Region) (payload turned : Payload) (stored : Option (List ℕ)) (r : Result A CodecError) → is_value elements.type elements.fill ≡ true
     → IsMovedBox codec shape region moved → IsTurned codec elements region payload turned
-    → NotEncodedInto chain elements (encoded_shape codec shape) (in_box moved) turned stored r → NotEncodedInto chain elements (encoded_shape codec shape) (listed (moved_of codec shape region)) payload stored r
+    → NotEncodedInto (coded chain elements (encoded_shape codec shape)) (update_of (in_box moved) turned stored) r → NotEncodedInto (coded chain elements (encoded_shape codec shape)) (update_of (listed (moved_of codec shape region)) payload stored) r
 unwritten_turned codec chain elements shape region moved payload turned stored (Ok value) fill b m h = tt
 unwritten_turned codec chain elements shape region moved payload turned stored (Err error.Fit) fill b m h = h
 unwritten_turned codec chain elements shape region moved payload turned stored (Err error.IncompatibleIndexer) fill b m h = absurd (let e = sym b.inside.inside ∙ h in cc)
@@ -239,7 +240,7 @@ unwritten_turned codec chain elements shape region moved payload turned stored (
 
 pub box_unwritten : {A : Type 0} (codec : ArrayCodec) (chain : Chain) (elements : Elements) (shape : List ℕ) (region moved : Region) (payload turned : Payload) (stored : Option (List ℕ)) (r : Result A CodecError) → is_value elements.type elements.fill ≡ true
     → IsMovedBox codec shape region moved → IsTurned codec elements region payload turned → encodes_in_part (after_array_codec codec chain) ≡ encodes_in_part chain
-    → NotEncodedInto chain elements (encoded_shape codec shape) (in_box moved) turned stored r → NotEncodedInto (after_array_codec codec chain) elements shape (in_box region) payload stored r
+    → NotEncodedInto (coded chain elements (encoded_shape codec shape)) (update_of (in_box moved) turned stored) r → NotEncodedInto (coded (after_array_codec codec chain) elements shape) (update_of (in_box region) payload stored) r
 box_unwritten codec chain elements shape region moved payload turned stored r fill b m partly h =
     let numbers = numbers_asked shape (in_box region) in
     unwritten_by_numbers (after_array_codec codec chain) elements shape (in_box region) payload stored r b.box.inside
@@ -247,7 +248,7 @@ box_unwritten codec chain elements shape region moved payload turned stored r fi
 
 -- elements that the codec does not move
 pub box_unturned : (A : Type 0) (codec : ArrayCodec) (chain : Chain) (elements : Elements) (shape : List ℕ) (region moved : Region) (payload : Payload) (stored : Option (List ℕ)) (e : CodecError) → IsMovedBox codec shape region moved
-    → fits (after_array_codec codec chain) elements.type shape ≡ true → EncodesArray codec elements region.shape payload (Err e) → NotEncodedInto {A = A} (after_array_codec codec chain) elements shape (in_box region) payload stored (Err e)
+    → fits (after_array_codec codec chain) elements.type shape ≡ true → EncodesArray codec elements region.shape payload (Err e) → NotEncodedInto {A = A} (coded (after_array_codec codec chain) elements shape) (update_of (in_box region) payload stored) (Err e)
 box_unturned A codec chain elements shape region moved payload stored error.Fit b fit h = absurd (let e = sym b.fits ∙ h in cc)
 box_unturned A codec chain elements shape region moved payload stored error.Size b fit h = inl (box_too_large elements.type shape region b.box h)
 box_unturned A codec chain elements shape region moved payload stored error.Memory b fit h = tt

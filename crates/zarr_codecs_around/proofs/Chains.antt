@@ -14,6 +14,7 @@ use Rattle.zarr_codecs_meaning.proofs.Representations.{encoded_size}
 use Rattle.zarr_codecs_arrays.specs.declared.array_bytes.ArrayBytes.{ArrayBytes}
 use Rattle.zarr_codecs_arrays.specs.declared.error.CodecError.{CodecError}
 use Rattle.zarr_codecs_arrays.specs.declared.error.CodecError.TheVariants as error
+use Rattle.zarr_codecs_traits.specs.Arrays.{coded}
 use Rattle.zarr_codecs_traits.specs.Outcomes.{MakesBytes, UndoesBytes, IsEncoded, Encodes, Decodes}
 use Rattle.zarr_codecs_around.specs.Codecs.{all_encoded, all_decoded}
 use Rattle.zarr_codecs_around.specs.Views.{with_codecs}
@@ -72,8 +73,8 @@ refused_by chain (codec ∷ codecs) elements shape made cells is none =
 
 -- what codecs make of what a chain made
 pub encodes_with : (chain : Chain) (codecs : List ByteCodec) (elements : Elements) (shape made : List ℕ) (payload : Payload) (r : Result (Vec ℕ Global) CodecError) (cells : List Cell)
-    → IsLawfulChain (with_codecs chain codecs) → is_value elements.type elements.fill ≡ true → IsEncoded chain true elements shape payload cells made → MakesBytes (all_encoded codecs) made r
-    → Encodes (with_codecs chain codecs) true elements shape payload r
+    → IsLawfulChain (with_codecs chain codecs) → is_value elements.type elements.fill ≡ true → IsEncoded (coded chain elements shape) true payload cells made → MakesBytes (all_encoded codecs) made r
+    → Encodes (coded (with_codecs chain codecs) elements shape) true payload r
 encodes_with chain codecs elements shape made payload (Ok value) cells lawful fill done is =
     let whole_chain = with_codecs chain codecs in
     let fit = fits_with chain codecs elements.type shape ∙ done.fit in
@@ -94,8 +95,8 @@ encodes_with chain codecs elements shape made payload (Err error.Memory) cells l
 encodes_with chain codecs elements shape made payload (Err e) cells lawful fill done is = absurd is
 
 -- what a chain refuses, it refuses with codecs after it for the same reason
-pub refused_with : (chain : Chain) (codecs : List ByteCodec) (elements : Elements) (shape : List ℕ) (payload : Payload) (e : CodecError) → Encodes chain true elements shape payload (Err e)
-    → Encodes (with_codecs chain codecs) true elements shape payload (Err e)
+pub refused_with : (chain : Chain) (codecs : List ByteCodec) (elements : Elements) (shape : List ℕ) (payload : Payload) (e : CodecError) → Encodes (coded chain elements shape) true payload (Err e)
+    → Encodes (coded (with_codecs chain codecs) elements shape) true payload (Err e)
 refused_with chain codecs elements shape payload error.Fit h = fits_with chain codecs elements.type shape ∙ h
 refused_with chain codecs elements shape payload error.Codec h =
     (h.0, record { valid = h.1.valid; fit = fits_with chain codecs elements.type shape ∙ h.1.fit; is = refuses_with chain codecs elements shape h.0 h.1.is })
@@ -106,7 +107,7 @@ refused_with chain codecs elements shape payload error.Memory h = tt
 refused_with chain codecs elements shape payload e h = (fits_with chain codecs elements.type shape ∙ h.0, h.1)
 
 -- what a function of the elements makes is more than any codec promises
-pub encodes_alike : (chain : Chain) (exact : Bool) (elements : Elements) (shape : List ℕ) (payload : Payload) (r : Result (Vec ℕ Global) CodecError) → Encodes chain true elements shape payload r → Encodes chain exact elements shape payload r
+pub encodes_alike : (chain : Chain) (exact : Bool) (elements : Elements) (shape : List ℕ) (payload : Payload) (r : Result (Vec ℕ Global) CodecError) → Encodes (coded chain elements shape) true payload r → Encodes (coded chain elements shape) exact payload r
 encodes_alike chain exact elements shape payload (Ok value) h =
     (h.0, record { valid = h.1.valid; fit = h.1.fit; encodes = λ _. h.1.encodes refl; stands = h.1.stands; sized = h.1.sized })
 encodes_alike chain exact elements shape payload (Err error.Fit) h = h
@@ -119,7 +120,7 @@ encodes_alike chain exact elements shape payload (Err e) h = h
 
 -- what a chain makes of what codecs undid
 pub decodes_with : (chain : Chain) (codecs : List ByteCodec) (elements : Elements) (shape value inside : List ℕ) (r : Result ArrayBytes CodecError) → all_decoded codecs value ≡ Some inside
-    → Decodes chain elements shape inside r → Decodes (with_codecs chain codecs) elements shape value r
+    → Decodes (coded chain elements shape) inside r → Decodes (coded (with_codecs chain codecs) elements shape) value r
 decodes_with chain codecs elements shape value inside (Ok found) undone h = record {
   cells = h.cells;
   fit = fits_with chain codecs elements.type shape ∙ h.fit;
@@ -135,7 +136,7 @@ decodes_with chain codecs elements shape value inside (Err e) undone h = absurd 
 
 -- what codecs do not undo
 pub undone_with : (chain : Chain) (codecs : List ByteCodec) (elements : Elements) (shape value : List ℕ) (e : CodecError) → fits chain elements.type shape ≡ true → UndoesBytes (all_decoded codecs) value (Err e)
-    → Decodes (with_codecs chain codecs) elements shape value (Err e)
+    → Decodes (coded (with_codecs chain codecs) elements shape) value (Err e)
 undone_with chain codecs elements shape value error.Damage fit h =
     (fits_with chain codecs elements.type shape ∙ fit, decoded_with chain codecs elements shape value ∙ ap (option_and_then (decoded chain elements shape)) h)
 undone_with chain codecs elements shape value error.Memory fit h = tt

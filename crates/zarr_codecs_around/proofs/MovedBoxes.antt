@@ -14,6 +14,7 @@ use Rattle.zarr_codecs_arrays.specs.declared.array_bytes.ArrayBytes.{ArrayBytes}
 use Rattle.zarr_codecs_arrays.specs.declared.error.CodecError.{CodecError}
 use Rattle.zarr_codecs_arrays.specs.declared.error.CodecError.TheVariants as error
 use Rattle.zarr_codecs_traits.specs.Indexers.{Asked, in_box}
+use Rattle.zarr_codecs_traits.specs.Arrays.{coded, update_of}
 use Rattle.zarr_codecs_traits.specs.Outcomes.{DecodesArray, DecodesPart, EncodesArray}
 use Rattle.zarr_codecs_traits.specs.PartWriting.{IsEncodedInto, IsPlaced, NotEncodedInto}
 use Rattle.zarr_codecs_traits.specs.ReadBytes.{most_read}
@@ -146,12 +147,12 @@ turned_places (codec ∷ codecs) elements shape region payload last moved made h
 -- ---- what is written
 
 pub boxes_written : (codecs : List ArrayCodec) (chain : Chain) (exact : Bool) (elements : Elements) (shape : List ℕ) (region : Region) (payload : Payload) (last : List ℕ) (moved : Region) (made : Payload) (old new : Option (List ℕ)) → IsBoxIn shape region
-    → IsTurnedTo codecs elements shape region payload last moved made → ((cells : List Cell) × IsEncodedInto chain exact elements last (in_box moved) made cells old new)
-    → (cells : List Cell) × IsEncodedInto (with_array_codecs codecs chain) exact elements shape (in_box region) payload cells old new
+    → IsTurnedTo codecs elements shape region payload last moved made → ((cells : List Cell) × IsEncodedInto (coded chain elements last) exact (update_of (in_box moved) made old) cells new)
+    → (cells : List Cell) × IsEncodedInto (coded (with_array_codecs codecs chain) elements shape) exact (update_of (in_box region) payload old) cells new
 boxes_written [] chain exact elements shape region payload last moved made old new box h w = (
   w.0,
-  subst (λ es. IsEncodedInto chain exact elements es (in_box region) payload w.0 old new) h.0
-      (subst (λ (r : Region). IsEncodedInto chain exact elements last (in_box r) payload w.0 old new) h.1 (subst (λ (p : Payload). IsEncodedInto chain exact elements last (in_box moved) p w.0 old new) h.2 w.1)),
+  subst (λ es. IsEncodedInto (coded chain elements es) exact (update_of (in_box region) payload old) w.0 new) h.0
+      (subst (λ (r : Region). IsEncodedInto (coded chain elements last) exact (update_of (in_box r) payload old) w.0 new) h.1 (subst (λ (p : Payload). IsEncodedInto (coded chain elements last) exact (update_of (in_box moved) p old) w.0 new) h.2 w.1)),
 )
 boxes_written (codec ∷ codecs) chain exact elements shape region payload last moved made old new box h w =
     let b = moved_box codec shape region h.next h.fit box h.region_is in
@@ -166,10 +167,10 @@ boxes_placed (codec ∷ codecs) chain elements shape region payload last moved m
 
 pub boxes_unwritten : {A : Type 0} (codecs : List ArrayCodec) (chain : Chain) (elements : Elements) (shape : List ℕ) (region : Region) (payload : Payload) (last : List ℕ) (moved : Region) (made : Payload) (stored : Option (List ℕ)) (r : Result A CodecError)
     → is_value elements.type elements.fill ≡ true → IsBoxIn shape region → IsTurnedTo codecs elements shape region payload last moved made → encodes_in_part (with_array_codecs codecs chain) ≡ encodes_in_part chain
-    → NotEncodedInto chain elements last (in_box moved) made stored r → NotEncodedInto (with_array_codecs codecs chain) elements shape (in_box region) payload stored r
+    → NotEncodedInto (coded chain elements last) (update_of (in_box moved) made stored) r → NotEncodedInto (coded (with_array_codecs codecs chain) elements shape) (update_of (in_box region) payload stored) r
 boxes_unwritten [] chain elements shape region payload last moved made stored r fill box h partly w =
-    subst (λ es. NotEncodedInto chain elements es (in_box region) payload stored r) h.0
-    (subst (λ (r' : Region). NotEncodedInto chain elements last (in_box r') payload stored r) h.1 (subst (λ (p : Payload). NotEncodedInto chain elements last (in_box moved) p stored r) h.2 w))
+    subst (λ es. NotEncodedInto (coded chain elements es) (update_of (in_box region) payload stored) r) h.0
+    (subst (λ (r' : Region). NotEncodedInto (coded chain elements last) (update_of (in_box r') payload stored) r) h.1 (subst (λ (p : Payload). NotEncodedInto (coded chain elements last) (update_of (in_box moved) p stored) r) h.2 w))
 boxes_unwritten (codec ∷ codecs) chain elements shape region payload last moved made stored r fill box h partly w =
     let b = moved_box codec shape region h.next h.fit box h.region_is in
     let each = partly_each codec codecs chain partly in
@@ -178,7 +179,7 @@ boxes_unwritten (codec ∷ codecs) chain elements shape region payload last move
 
 -- elements that are not moved are not written
 pub unturned_into : (codecs : List ArrayCodec) (chain : Chain) (elements : Elements) (shape : List ℕ) (region : Region) (payload : Payload) (stored : Option (List ℕ)) (e : CodecError) → IsBoxIn shape region → fits (with_array_codecs codecs chain) elements.type shape ≡ true
-    → TurnsBox codecs elements shape region payload (Err e) → NotEncodedInto {A = Unit {0}} (with_array_codecs codecs chain) elements shape (in_box region) payload stored (Err e)
+    → TurnsBox codecs elements shape region payload (Err e) → NotEncodedInto {A = Unit {0}} (coded (with_array_codecs codecs chain) elements shape) (update_of (in_box region) payload stored) (Err e)
 unturned_into codecs chain elements shape region payload stored error.Fit box fit h = sym (never_before codecs chain elements.type shape h)
 unturned_into codecs chain elements shape region payload stored error.Size box fit h = inl h
 unturned_into codecs chain elements shape region payload stored error.Memory box fit h = tt
@@ -204,14 +205,14 @@ partly_split (codec ∷ first) last chain partly =
 -- ---- what is read
 
 pub boxes_unread : (codecs : List ArrayCodec) (chain : Chain) (elements : Elements) (shape : List ℕ) (stored : Option (List ℕ)) (region : Region) (last : List ℕ) (moved : Region) (e : CodecError) → IsBoxIn shape region → IsBoxAfter codecs shape region last moved
-    → DecodesPart chain elements last stored (in_box moved) (Err e) → DecodesPart (with_array_codecs codecs chain) elements shape stored (in_box region) (Err e)
+    → DecodesPart (coded chain elements last) stored (in_box moved) (Err e) → DecodesPart (coded (with_array_codecs codecs chain) elements shape) stored (in_box region) (Err e)
 boxes_unread [] chain elements shape stored region last moved e box h d =
-    subst (λ es. DecodesPart chain elements es stored (in_box region) (Err e)) h.0 (subst (λ (r : Region). DecodesPart chain elements last stored (in_box r) (Err e)) h.1 d)
+    subst (λ es. DecodesPart (coded chain elements es) stored (in_box region) (Err e)) h.0 (subst (λ (r : Region). DecodesPart (coded chain elements last) stored (in_box r) (Err e)) h.1 d)
 boxes_unread (codec ∷ codecs) chain elements shape stored region last moved e box h d =
     let b = moved_box codec shape region h.next h.fit box h.region_is in
     box_unread codec (with_array_codecs codecs chain) elements shape stored region h.next e b (boxes_unread codecs chain elements (encoded_shape codec shape) stored h.next last moved e b.inside h.rest d)
 
-pub unboxed_read : (codecs : List ArrayCodec) (chain : Chain) (elements : Elements) (shape : List ℕ) (stored : Option (List ℕ)) (region : Region) (asked : Asked) (e : CodecError) → MovesBoxes codecs shape region (Err e) → DecodesPart (with_array_codecs codecs chain) elements shape stored asked (Err e)
+pub unboxed_read : (codecs : List ArrayCodec) (chain : Chain) (elements : Elements) (shape : List ℕ) (stored : Option (List ℕ)) (region : Region) (asked : Asked) (e : CodecError) → MovesBoxes codecs shape region (Err e) → DecodesPart (coded (with_array_codecs codecs chain) elements shape) stored asked (Err e)
 unboxed_read codecs chain elements shape stored region asked error.Fit none = sym (never_before codecs chain elements.type shape none)
 unboxed_read codecs chain elements shape stored region asked error.Memory h = tt
 unboxed_read codecs chain elements shape stored region asked e h = absurd h
@@ -235,13 +236,13 @@ boxes_most (codec ∷ first) last chain type shape stored region mid between tak
 
 pub undoes_none : (elements : Elements) (shape : List ℕ) (region : Region) (found : ArrayBytes) → UndoesBox [] elements shape region found (Ok found)
 undoes_none elements shape region found = λ chain stored last moved h d.
-    subst (λ es. DecodesPart chain elements es stored (in_box region) (Ok found)) h.0 (subst (λ (r : Region). DecodesPart chain elements last stored (in_box r) (Ok found)) h.1 d)
+    subst (λ es. DecodesPart (coded chain elements es) stored (in_box region) (Ok found)) h.0 (subst (λ (r : Region). DecodesPart (coded chain elements last) stored (in_box r) (Ok found)) h.1 d)
 
 pub undoes_one : (codec : ArrayCodec) (elements : Elements) (shape : List ℕ) (region : Region) (found : ArrayBytes) (r : Result ArrayBytes CodecError) → is_value elements.type elements.fill ≡ true → IsBoxIn shape region → DecodesArray codec elements region.shape (payload_of found) r
     → UndoesBox (codec ∷ []) elements shape region found r
 undoes_one codec elements shape region found r fill box undone = λ chain stored last moved h d.
     let b = moved_box codec shape region h.next h.fit box h.region_is in
-    let read = subst (λ es. DecodesPart chain elements es stored (in_box h.next) (Ok found)) h.rest.0 (subst (λ (m : Region). DecodesPart chain elements last stored (in_box m) (Ok found)) h.rest.1 d) in
+    let read = subst (λ es. DecodesPart (coded chain elements es) stored (in_box h.next) (Ok found)) h.rest.0 (subst (λ (m : Region). DecodesPart (coded chain elements last) stored (in_box m) (Ok found)) h.rest.1 d) in
     box_read codec chain elements shape stored region h.next found r fill b read undone
 
 pub undone_source : (codec : ArrayCodec) (elements : Elements) (shape : List ℕ) (payload : Payload) (r : Result ArrayBytes CodecError) → DecodesArray codec elements shape payload r → (count : ℕ) → refused_after count r ≡ count
@@ -253,18 +254,18 @@ undone_source codec elements shape payload (Err e) h count = refl
 pub undoes_both : (first last : List ArrayCodec) (elements : Elements) (shape : List ℕ) (region : Region) (mid : List ℕ) (between : Region) (found moved : ArrayBytes) (r : Result ArrayBytes CodecError) → IsBoxAfter first shape region mid between
     → UndoesBox last elements mid between found (Ok moved) → UndoesBox first elements shape region moved r → UndoesBox (first ++ last) elements shape region found r
 undoes_both first last elements shape region mid between found moved r at second one = λ chain stored end place h d.
-    subst (λ (whole : Chain). DecodesPart whole elements shape stored (in_box region) r) (sym (with_more first last chain))
+    subst (λ (whole : Chain). DecodesPart (coded whole elements shape) stored (in_box region) r) (sym (with_more first last chain))
     (one (with_array_codecs last chain) stored mid between at (second chain stored end place (box_split first last shape region mid between end place at h) d))
 
 -- or that the last did not
 pub undoes_first : (first last : List ArrayCodec) (elements : Elements) (shape : List ℕ) (region : Region) (mid : List ℕ) (between : Region) (found : ArrayBytes) (e : CodecError) → IsBoxIn shape region → IsBoxAfter first shape region mid between
     → UndoesBox last elements mid between found (Err e) → UndoesBox (first ++ last) elements shape region found (Err e)
 undoes_first first last elements shape region mid between found e box at second = λ chain stored end place h d.
-    subst (λ (whole : Chain). DecodesPart whole elements shape stored (in_box region) (Err e)) (sym (with_more first last chain))
+    subst (λ (whole : Chain). DecodesPart (coded whole elements shape) stored (in_box region) (Err e)) (sym (with_more first last chain))
     (boxes_unread first (with_array_codecs last chain) elements shape stored region mid between e box at (second chain stored end place (box_split first last shape region mid between end place at h) d))
 
 -- or that there is no box after the first
 pub undoes_unboxed : (first last : List ArrayCodec) (elements : Elements) (shape : List ℕ) (region : Region) (found : ArrayBytes) (e : CodecError) → MovesBoxes first shape region (Err e) → UndoesBox (first ++ last) elements shape region found (Err e)
 undoes_unboxed first last elements shape region found e none = λ chain stored end place h d.
-    subst (λ (whole : Chain). DecodesPart whole elements shape stored (in_box region) (Err e)) (sym (with_more first last chain))
+    subst (λ (whole : Chain). DecodesPart (coded whole elements shape) stored (in_box region) (Err e)) (sym (with_more first last chain))
     (unboxed_read first (with_array_codecs last chain) elements shape stored region (in_box region) e none)

@@ -13,6 +13,7 @@ use Rattle.zarr_codecs_arrays.specs.declared.error.CodecError.{CodecError}
 use Rattle.zarr_codecs_arrays.specs.declared.error.CodecError.TheVariants as error
 use Rattle.zarr_codecs_array_to_array.specs.Moving.{are_places, moved_numbers}
 use Rattle.zarr_codecs_traits.specs.Indexers.{Asked, listed}
+use Rattle.zarr_codecs_traits.specs.Arrays.{coded, update_of}
 use Rattle.zarr_codecs_traits.specs.Outcomes.{DecodesPart}
 use Rattle.zarr_codecs_traits.specs.PartWriting.{IsEncodedInto, IsPlaced, NotEncodedInto}
 use Rattle.zarr_codecs_traits.specs.ReadBytes.{most_of_numbers}
@@ -53,7 +54,7 @@ all_left codecs shape numbers inside small = record { fit = refl; last = refl; m
 -- ---- parts that are read
 
 pub lists_all : (codecs : List ArrayCodec) (chain : Chain) (elements : Elements) (shape : List ℕ) (stored : Option (List ℕ)) (numbers : List ℕ) (r : Result ArrayBytes CodecError) → all_fit codecs shape ≡ true → are_places shape numbers ≡ true
-    → DecodesPart chain elements (shape_after codecs shape) stored (listed (numbers_after codecs shape numbers)) r → DecodesPart (with_array_codecs codecs chain) elements shape stored (listed numbers) r
+    → DecodesPart (coded chain elements (shape_after codecs shape)) stored (listed (numbers_after codecs shape numbers)) r → DecodesPart (coded (with_array_codecs codecs chain) elements shape) stored (listed numbers) r
 lists_all [] chain elements shape stored numbers r all inside h = h
 lists_all (codec ∷ codecs) chain elements shape stored numbers r all inside h =
     let two = and_parts (array_codec_fits codec shape) (all_fit codecs (encoded_shape codec shape)) all in
@@ -66,7 +67,7 @@ most_all [] chain type shape stored numbers = refl
 most_all (codec ∷ codecs) chain type shape stored numbers = most_all codecs chain type (encoded_shape codec shape) stored (moved_numbers codec shape numbers) ∙ after_most codec (with_array_codecs codecs chain) type shape stored numbers
 
 pub unlisted_all : (codecs : List ArrayCodec) (chain : Chain) (elements : Elements) (shape : List ℕ) (stored : Option (List ℕ)) (numbers : List ℕ) (asked : Asked) (e : CodecError) → MovesNumbers codecs shape numbers (Err e)
-    → DecodesPart (with_array_codecs codecs chain) elements shape stored asked (Err e)
+    → DecodesPart (coded (with_array_codecs codecs chain) elements shape) stored asked (Err e)
 unlisted_all codecs chain elements shape stored numbers asked error.Fit none = sym (never_before codecs chain elements.type shape none)
 unlisted_all codecs chain elements shape stored numbers asked error.Memory h = tt
 unlisted_all codecs chain elements shape stored numbers asked e h = absurd h
@@ -74,7 +75,7 @@ unlisted_all codecs chain elements shape stored numbers asked e h = absurd h
 -- ---- parts that are written
 
 pub written_all : (codecs : List ArrayCodec) (chain : Chain) (exact : Bool) (elements : Elements) (shape numbers : List ℕ) (payload : Payload) (cells : List Cell) (old new : Option (List ℕ)) → all_fit codecs shape ≡ true → are_places shape numbers ≡ true
-    → IsEncodedInto chain exact elements (shape_after codecs shape) (listed (numbers_after codecs shape numbers)) payload cells old new → IsEncodedInto (with_array_codecs codecs chain) exact elements shape (listed numbers) payload cells old new
+    → IsEncodedInto (coded chain elements (shape_after codecs shape)) exact (update_of (listed (numbers_after codecs shape numbers)) payload old) cells new → IsEncodedInto (coded (with_array_codecs codecs chain) elements shape) exact (update_of (listed numbers) payload old) cells new
 written_all [] chain exact elements shape numbers payload cells old new all inside h = h
 written_all (codec ∷ codecs) chain exact elements shape numbers payload cells old new all inside h =
     let two = and_parts (array_codec_fits codec shape) (all_fit codecs (encoded_shape codec shape)) all in
@@ -87,8 +88,8 @@ placed_all [] chain shape stored h = h
 placed_all (codec ∷ codecs) chain shape stored h = placed_before codec (with_array_codecs codecs chain) shape stored (placed_all codecs chain (encoded_shape codec shape) stored h)
 
 pub unwritten_all : {A : Type 0} (codecs : List ArrayCodec) (chain : Chain) (elements : Elements) (shape numbers : List ℕ) (payload : Payload) (stored : Option (List ℕ)) (r : Result A CodecError) → all_fit codecs shape ≡ true → are_places shape numbers ≡ true
-    → encodes_in_part (with_array_codecs codecs chain) ≡ encodes_in_part chain → NotEncodedInto chain elements (shape_after codecs shape) (listed (numbers_after codecs shape numbers)) payload stored r
-    → NotEncodedInto (with_array_codecs codecs chain) elements shape (listed numbers) payload stored r
+    → encodes_in_part (with_array_codecs codecs chain) ≡ encodes_in_part chain → NotEncodedInto (coded chain elements (shape_after codecs shape)) (update_of (listed (numbers_after codecs shape numbers)) payload stored) r
+    → NotEncodedInto (coded (with_array_codecs codecs chain) elements shape) (update_of (listed numbers) payload stored) r
 unwritten_all [] chain elements shape numbers payload stored r all inside partly h = h
 unwritten_all (codec ∷ codecs) chain elements shape numbers payload stored r all inside partly h =
     let two = and_parts (array_codec_fits codec shape) (all_fit codecs (encoded_shape codec shape)) all in
@@ -98,7 +99,7 @@ unwritten_all (codec ∷ codecs) chain elements shape numbers payload stored r a
     (unwritten_all codecs chain elements (encoded_shape codec shape) (moved_numbers codec shape numbers) payload stored r two.1 within each.1 h)
 
 pub unmoved_all : (codecs : List ArrayCodec) (chain : Chain) (elements : Elements) (shape numbers : List ℕ) (asked : Asked) (payload : Payload) (stored : Option (List ℕ)) (e : CodecError) → MovesNumbers codecs shape numbers (Err e)
-    → NotEncodedInto {A = Unit {0}} (with_array_codecs codecs chain) elements shape asked payload stored (Err e)
+    → NotEncodedInto {A = Unit {0}} (coded (with_array_codecs codecs chain) elements shape) (update_of asked payload stored) (Err e)
 unmoved_all codecs chain elements shape numbers asked payload stored error.Fit none = sym (never_before codecs chain elements.type shape none)
 unmoved_all codecs chain elements shape numbers asked payload stored error.Memory h = tt
 unmoved_all codecs chain elements shape numbers asked payload stored e h = absurd h

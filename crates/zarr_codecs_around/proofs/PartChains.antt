@@ -13,6 +13,7 @@ use Rattle.zarr_codecs_arrays.specs.declared.array_bytes.ArrayBytes.{ArrayBytes}
 use Rattle.zarr_codecs_arrays.specs.declared.error.CodecError.{CodecError}
 use Rattle.zarr_codecs_arrays.specs.declared.error.CodecError.TheVariants as error
 use Rattle.zarr_codecs_traits.specs.Indexers.{Asked, in_box, listed, are_inside, numbers_asked}
+use Rattle.zarr_codecs_traits.specs.Arrays.{coded}
 use Rattle.zarr_codecs_traits.specs.Outcomes.{DecodesPart, UndoesBytes}
 use Rattle.zarr_codecs_traits.specs.Sources.{refused_after}
 use Rattle.zarr_codecs_regions.specs.Asking.{TestsAsked}
@@ -43,7 +44,7 @@ fits_as chain codecs type other shape suits fit same is told = fits_with chain c
 
 -- a part of what codecs undid
 pub part_undone : (chain : Chain) (codecs : List ByteCodec) (elements : Elements) (shape value inside : List ℕ) (asked : Asked) (r : Result ArrayBytes CodecError) → all_decoded codecs value ≡ Some inside
-    → DecodesPart chain elements shape (Some inside) asked r → DecodesPart (with_codecs chain codecs) elements shape (Some value) asked r
+    → DecodesPart (coded chain elements shape) (Some inside) asked r → DecodesPart (coded (with_codecs chain codecs) elements shape) (Some value) asked r
 part_undone chain codecs elements shape value inside asked (Ok found) undone h = record {
   cells = h.cells;
   fit = fits_with chain codecs elements.type shape ∙ h.fit;
@@ -65,7 +66,7 @@ part_undone chain codecs elements shape value inside asked (Err e) undone h = ab
 
 -- what codecs do not undo
 pub part_not_undone : (chain : Chain) (codecs : List ByteCodec) (elements : Elements) (shape value : List ℕ) (asked : Asked) (e : CodecError) → fits chain elements.type shape ≡ true → are_inside shape asked ≡ true
-    → UndoesBytes (all_decoded codecs) value (Err e) → DecodesPart (with_codecs chain codecs) elements shape (Some value) asked (Err e)
+    → UndoesBytes (all_decoded codecs) value (Err e) → DecodesPart (coded (with_codecs chain codecs) elements shape) (Some value) asked (Err e)
 part_not_undone chain codecs elements shape value asked error.Damage fit inside h = (
   fits_with chain codecs elements.type shape ∙ fit,
   inside,
@@ -75,7 +76,7 @@ part_not_undone chain codecs elements shape value asked error.Memory fit inside 
 part_not_undone chain codecs elements shape value asked e fit inside h = absurd h
 
 -- where nothing is stored, codecs have nothing to undo
-pub part_of_none : (chain : Chain) (codecs : List ByteCodec) (elements : Elements) (shape : List ℕ) (asked : Asked) (r : Result ArrayBytes CodecError) → DecodesPart chain elements shape None asked r → DecodesPart (with_codecs chain codecs) elements shape None asked r
+pub part_of_none : (chain : Chain) (codecs : List ByteCodec) (elements : Elements) (shape : List ℕ) (asked : Asked) (r : Result ArrayBytes CodecError) → DecodesPart (coded chain elements shape) None asked r → DecodesPart (coded (with_codecs chain codecs) elements shape) None asked r
 part_of_none chain codecs elements shape asked (Ok found) h = record {
   cells = h.cells;
   fit = fits_with chain codecs elements.type shape ∙ h.fit;
@@ -94,7 +95,7 @@ part_of_none chain codecs elements shape asked (Err e) h = absurd h
 -- ---- what is tested first
 
 -- why places that are asked for are not decoded
-pub not_asked : (chain : Chain) (elements : Elements) (shape : List ℕ) (stored : Option (List ℕ)) (asked : Asked) (e : CodecError) → TestsAsked {A = Unit {0}} shape asked (Err e) → DecodesPart chain elements shape stored asked (Err e)
+pub not_asked : (chain : Chain) (elements : Elements) (shape : List ℕ) (stored : Option (List ℕ)) (asked : Asked) (e : CodecError) → TestsAsked {A = Unit {0}} shape asked (Err e) → DecodesPart (coded chain elements shape) stored asked (Err e)
 not_asked chain elements shape stored asked error.IncompatibleIndexer h = h
 not_asked chain elements shape stored asked error.Size h = inl h
 not_asked chain elements shape stored asked e h = absurd h
@@ -133,7 +134,7 @@ asked_places shape (listed numbers) h = h
 
 -- what is asked for may be asked for by its numbers
 pub asked_by_numbers : (chain : Chain) (elements : Elements) (shape : List ℕ) (stored : Option (List ℕ)) (asked : Asked) (r : Result ArrayBytes CodecError) → are_inside shape asked ≡ true
-    → DecodesPart chain elements shape stored (listed (numbers_asked shape asked)) r → DecodesPart chain elements shape stored asked r
+    → DecodesPart (coded chain elements shape) stored (listed (numbers_asked shape asked)) r → DecodesPart (coded chain elements shape) stored asked r
 asked_by_numbers chain elements shape stored asked (Ok found) inside h = record { cells = h.cells; fit = h.fit; inside = inside; lists = h.lists; is = h.is }
 asked_by_numbers chain elements shape stored asked (Err error.Fit) inside h = h
 asked_by_numbers chain elements shape stored asked (Err error.IncompatibleIndexer) inside h = absurd (let e = sym (asked_places shape asked inside) ∙ h in cc)

@@ -11,6 +11,7 @@ use Rattle.zarr_codecs_arrays.specs.declared.error.CodecError.{CodecError}
 use Rattle.zarr_codecs_arrays.specs.declared.error.CodecError.TheVariants as error
 use Rattle.zarr_codecs_traits.specs.Capabilities.{decodes_parts, encodes_as_is, granularity}
 use Rattle.zarr_codecs_traits.specs.Indexers.{Asked, in_box, listed}
+use Rattle.zarr_codecs_traits.specs.Arrays.{coded}
 use Rattle.zarr_codecs_traits.specs.PartEncoding.{EncodesAsked, encodes_ranges, takes_patches}
 use Rattle.zarr_codecs_traits.specs.Representations.{IsRepresented, RepresentsArray, known_size}
 use Rattle.zarr_codecs_traits.specs.declared.bytes_representation.BytesRepresentation.{BytesRepresentation}
@@ -93,7 +94,7 @@ never_encodes chain meaning [] some = absurd (some refl)
 never_encodes chain meaning (codec ∷ codecs) some = encodes_after chain (meaning codec) (map meaning codecs)
 
 -- a chain that encodes no ranges answers that there are none
-pub none_asked : (chain : Chain) (exact : Bool) (elements : Elements) (shape : List ℕ) (asked : Asked) (payload : Payload) → encodes_ranges chain ≡ false → EncodesAsked chain exact elements shape asked payload (Ok None)
+pub none_asked : (chain : Chain) (exact : Bool) (elements : Elements) (shape : List ℕ) (asked : Asked) (payload : Payload) → encodes_ranges chain ≡ false → EncodesAsked (coded chain elements shape) exact asked payload (Ok None)
 none_asked chain exact elements shape (in_box region) payload h = h
 none_asked chain exact elements shape (listed numbers) payload h = tt
 

@@ -34,6 +34,7 @@ use Rattle.zarr_codecs_arrays.specs.declared.error.CodecError.{CodecError}
 use Rattle.zarr_codecs_arrays.specs.declared.error.CodecError.TheVariants as error
 use Rattle.zarr_codecs_array_to_array.specs.Moving.{are_places, moved_numbers}
 use Rattle.zarr_codecs_traits.specs.Indexers.{Asked, are_inside, listed, numbers_asked, put}
+use Rattle.zarr_codecs_traits.specs.Arrays.{coded, update_of}
 use Rattle.zarr_codecs_traits.specs.PartWriting.{ChunkTight, IsEncodedInto, IsRefusedInto, NotEncodedInto, PassesLength, StopsWrite, cells_after, cells_shown, only_cell}
 use Rattle.zarr_codecs_traits.proofs.Damage.{damaged_before}
 use Rattle.zarr_codecs_around.specs.Views.{plain_before, with_array_codecs}
@@ -232,7 +233,7 @@ moved_count : (codec : ArrayCodec) (shape numbers : List ℕ) → length (moved_
 moved_count codec shape numbers = length-map numbers (λ n. position_of n (source_places codec shape))
 
 pub written_after : (codec : ArrayCodec) (chain : Chain) (exact : Bool) (elements : Elements) (shape numbers : List ℕ) (payload : Payload) (cells : List Cell) (old new : Option (List ℕ)) → array_codec_fits codec shape ≡ true → are_places shape numbers ≡ true
-    → IsEncodedInto chain exact elements (encoded_shape codec shape) (listed (moved_numbers codec shape numbers)) payload cells old new → IsEncodedInto (after_array_codec codec chain) exact elements shape (listed numbers) payload cells old new
+    → IsEncodedInto (coded chain elements (encoded_shape codec shape)) exact (update_of (listed (moved_numbers codec shape numbers)) payload old) cells new → IsEncodedInto (coded (after_array_codec codec chain) elements shape) exact (update_of (listed numbers) payload old) cells new
 written_after codec chain exact elements shape numbers payload cells old new fit inside h =
     let places = source_places codec shape in
     let undone = undone_places codec shape in
@@ -284,7 +285,7 @@ only_taken fill shown (k ∷ ks) =
 
 -- the cells that the array would have, as they are after the codec
 after_moved : (codec : ArrayCodec) (chain : Chain) (elements : Elements) (shape numbers : List ℕ) (stored : Option (List ℕ)) (cells : List Cell) → array_codec_fits codec shape ≡ true → are_places shape numbers ≡ true
-    → gather elements.fill (cells_after (after_array_codec codec chain) elements shape stored numbers cells) (source_places codec shape) ≡ cells_after chain elements (encoded_shape codec shape) stored (moved_numbers codec shape numbers) cells
+    → gather elements.fill (cells_after (coded (after_array_codec codec chain) elements shape) stored numbers cells) (source_places codec shape) ≡ cells_after (coded chain elements (encoded_shape codec shape)) stored (moved_numbers codec shape numbers) cells
 after_moved codec chain elements shape numbers stored cells fit inside =
     let places = source_places codec shape in
     let undone = undone_places codec shape in
@@ -302,14 +303,14 @@ after_moved codec chain elements shape numbers stored cells fit inside =
     ∙ ap (put (moved_numbers codec shape numbers) cells) (ap (λ xs. gather fill xs places) same ∙ gathered_again fill (map only inner) places (product shape) many (array_codec_once codec shape fit))
 
 refused_into : (codec : ArrayCodec) (chain : Chain) (elements : Elements) (shape numbers : List ℕ) (payload : Payload) (stored : Option (List ℕ)) (inner outer : List Cell → Type 0) → array_codec_fits codec shape ≡ true → are_places shape numbers ≡ true
-    → ((after : List Cell) → inner (gather elements.fill after (source_places codec shape)) → outer after) → IsRefusedInto chain elements (encoded_shape codec shape) (listed (moved_numbers codec shape numbers)) payload stored inner
-    → IsRefusedInto (after_array_codec codec chain) elements shape (listed numbers) payload stored outer
+    → ((after : List Cell) → inner (gather elements.fill after (source_places codec shape)) → outer after) → IsRefusedInto (coded chain elements (encoded_shape codec shape)) (update_of (listed (moved_numbers codec shape numbers)) payload stored) inner
+    → IsRefusedInto (coded (after_array_codec codec chain) elements shape) (update_of (listed numbers) payload stored) outer
 refused_into codec chain elements shape numbers payload stored inner outer fit inside law h = record {
   cells = h.cells;
   valid = valid_again elements.type payload (length (moved_numbers codec shape numbers)) (length numbers) h.cells (moved_count codec shape numbers) h.valid;
   fit = fit_after codec chain elements.type shape fit h.fit;
   inside = inside;
-  is = law (cells_after (after_array_codec codec chain) elements shape stored numbers h.cells) (subst inner (sym (after_moved codec chain elements shape numbers stored h.cells fit inside)) h.is);
+  is = law (cells_after (coded (after_array_codec codec chain) elements shape) stored numbers h.cells) (subst inner (sym (after_moved codec chain elements shape numbers stored h.cells fit inside)) h.is);
 }
 
 -- what is stored is not decoded, where what the codec moved isn't
@@ -318,7 +319,7 @@ undecoded_after codec chain elements shape None none = absurd (cc)
 undecoded_after codec chain elements shape (Some value) none = ap (option_map (λ cells. gather elements.fill cells (undone_places codec shape))) none
 
 stopped_after : (codec : ArrayCodec) (chain : Chain) (elements : Elements) (shape numbers : List ℕ) (payload : Payload) (stored : Option (List ℕ)) → array_codec_fits codec shape ≡ true → are_places shape numbers ≡ true
-    → encodes_in_part (after_array_codec codec chain) ≡ encodes_in_part chain → StopsWrite chain elements (encoded_shape codec shape) (listed (moved_numbers codec shape numbers)) payload stored → StopsWrite (after_array_codec codec chain) elements shape (listed numbers) payload stored
+    → encodes_in_part (after_array_codec codec chain) ≡ encodes_in_part chain → StopsWrite (coded chain elements (encoded_shape codec shape)) (update_of (listed (moved_numbers codec shape numbers)) payload stored) → StopsWrite (coded (after_array_codec codec chain) elements shape) (update_of (listed numbers) payload stored)
 stopped_after codec chain elements shape numbers payload stored fit inside partly (inl damage) = inl (damaged_before codec chain elements shape stored numbers partly damage)
 stopped_after codec chain elements shape numbers payload stored fit inside partly (inr full) = inr (
   undecoded_after codec chain elements shape stored full.0,
@@ -326,7 +327,7 @@ stopped_after codec chain elements shape numbers payload stored fit inside partl
 )
 
 pub unwritten_after : {A : Type 0} (codec : ArrayCodec) (chain : Chain) (elements : Elements) (shape numbers : List ℕ) (payload : Payload) (stored : Option (List ℕ)) (r : Result A CodecError) → array_codec_fits codec shape ≡ true → are_places shape numbers ≡ true
-    → encodes_in_part (after_array_codec codec chain) ≡ encodes_in_part chain → NotEncodedInto chain elements (encoded_shape codec shape) (listed (moved_numbers codec shape numbers)) payload stored r → NotEncodedInto (after_array_codec codec chain) elements shape (listed numbers) payload stored r
+    → encodes_in_part (after_array_codec codec chain) ≡ encodes_in_part chain → NotEncodedInto (coded chain elements (encoded_shape codec shape)) (update_of (listed (moved_numbers codec shape numbers)) payload stored) r → NotEncodedInto (coded (after_array_codec codec chain) elements shape) (update_of (listed numbers) payload stored) r
 unwritten_after codec chain elements shape numbers payload stored (Ok value) fit inside partly h = tt
 unwritten_after codec chain elements shape numbers payload stored (Err error.Fit) fit inside partly h = unfit_after codec chain elements.type shape h
 unwritten_after codec chain elements shape numbers payload stored (Err error.IncompatibleIndexer) fit inside partly h = absurd (let e = sym (are_moved codec shape numbers fit inside) ∙ h in cc)
@@ -345,21 +346,21 @@ unwritten_after codec chain elements shape numbers payload stored (Err e) fit in
 -- ---- boxes by the numbers of their places
 
 pub written_by_numbers : (chain : Chain) (exact : Bool) (elements : Elements) (shape : List ℕ) (asked : Asked) (payload : Payload) (cells : List Cell) (old new : Option (List ℕ)) → are_inside shape asked ≡ true
-    → IsEncodedInto chain exact elements shape (listed (numbers_asked shape asked)) payload cells old new → IsEncodedInto chain exact elements shape asked payload cells old new
+    → IsEncodedInto (coded chain elements shape) exact (update_of (listed (numbers_asked shape asked)) payload old) cells new → IsEncodedInto (coded chain elements shape) exact (update_of asked payload old) cells new
 written_by_numbers chain exact elements shape asked payload cells old new inside h =
     record { valid = h.valid; fit = h.fit; inside = inside; opened = h.opened; none_lost = h.none_lost; stands = h.stands; tight = h.tight; absent = h.absent; encodes = h.encodes; shows = h.shows }
 
 listed_refused : (chain : Chain) (elements : Elements) (shape : List ℕ) (asked : Asked) (payload : Payload) (stored : Option (List ℕ)) (refuses : List Cell → Type 0) → are_inside shape asked ≡ true
-    → IsRefusedInto chain elements shape (listed (numbers_asked shape asked)) payload stored refuses → IsRefusedInto chain elements shape asked payload stored refuses
+    → IsRefusedInto (coded chain elements shape) (update_of (listed (numbers_asked shape asked)) payload stored) refuses → IsRefusedInto (coded chain elements shape) (update_of asked payload stored) refuses
 listed_refused chain elements shape asked payload stored refuses inside h = record { cells = h.cells; valid = h.valid; fit = h.fit; inside = inside; is = h.is }
 
-stopped_by_numbers : (chain : Chain) (elements : Elements) (shape : List ℕ) (asked : Asked) (payload : Payload) (stored : Option (List ℕ)) → are_inside shape asked ≡ true → StopsWrite chain elements shape (listed (numbers_asked shape asked)) payload stored
-    → StopsWrite chain elements shape asked payload stored
+stopped_by_numbers : (chain : Chain) (elements : Elements) (shape : List ℕ) (asked : Asked) (payload : Payload) (stored : Option (List ℕ)) → are_inside shape asked ≡ true → StopsWrite (coded chain elements shape) (update_of (listed (numbers_asked shape asked)) payload stored)
+    → StopsWrite (coded chain elements shape) (update_of asked payload stored)
 stopped_by_numbers chain elements shape asked payload stored inside (inl damage) = inl damage
 stopped_by_numbers chain elements shape asked payload stored inside (inr full) = inr (full.0, λ lossless. listed_refused chain elements shape asked payload stored (PassesLength chain elements shape stored) inside (full.1 lossless))
 
 pub unwritten_by_numbers : {A : Type 0} (chain : Chain) (elements : Elements) (shape : List ℕ) (asked : Asked) (payload : Payload) (stored : Option (List ℕ)) (r : Result A CodecError) → are_inside shape asked ≡ true
-    → NotEncodedInto chain elements shape (listed (numbers_asked shape asked)) payload stored r → NotEncodedInto chain elements shape asked payload stored r
+    → NotEncodedInto (coded chain elements shape) (update_of (listed (numbers_asked shape asked)) payload stored) r → NotEncodedInto (coded chain elements shape) (update_of asked payload stored) r
 unwritten_by_numbers chain elements shape asked payload stored (Ok value) inside h = tt
 unwritten_by_numbers chain elements shape asked payload stored (Err error.Fit) inside h = h
 unwritten_by_numbers chain elements shape asked payload stored (Err error.IncompatibleIndexer) inside h = absurd (let e = sym (asked_places shape asked inside) ∙ h in cc)

@@ -10,6 +10,7 @@ use Rattle.zarr_codecs_arrays.specs.Views.{payload_of}
 use Rattle.zarr_codecs_arrays.specs.declared.array_bytes.ArrayBytes.{ArrayBytes}
 use Rattle.zarr_codecs_arrays.specs.declared.error.CodecError.{CodecError}
 use Rattle.zarr_codecs_arrays.specs.declared.error.CodecError.TheVariants as error
+use Rattle.zarr_codecs_traits.specs.Arrays.{coded}
 use Rattle.zarr_codecs_traits.specs.Outcomes.{Encodes, Decodes}
 use Rattle.zarr_codecs_around.specs.Views.{with_array_codecs}
 
@@ -33,10 +34,10 @@ EncodesShapes codecs shape (Err e) = ⊥
 -- elements that array codecs moved: what a chain makes of them is what it makes of the elements before, with the codecs before it; where they are not moved, that is what encoding answers
 abbrev pub MovesAll : List ArrayCodec → Elements → List ℕ → Payload → Result ArrayBytes CodecError → Type 0
 MovesAll codecs elements shape payload (Ok moved) =
-    (chain : Chain) (exact : Bool) (r : Result (Vec ℕ Global) CodecError) → fits chain elements.type (shape_after codecs shape) ≡ true → Encodes chain exact elements (shape_after codecs shape) (payload_of moved) r
-    → Encodes (with_array_codecs codecs chain) exact elements shape payload r
-MovesAll codecs elements shape payload (Err e) = (chain : Chain) (exact : Bool) → fits chain elements.type (shape_after codecs shape) ≡ true → Encodes (with_array_codecs codecs chain) exact elements shape payload (Err e)
+    (chain : Chain) (exact : Bool) (r : Result (Vec ℕ Global) CodecError) → fits chain elements.type (shape_after codecs shape) ≡ true → Encodes (coded chain elements (shape_after codecs shape)) exact (payload_of moved) r
+    → Encodes (coded (with_array_codecs codecs chain) elements shape) exact payload r
+MovesAll codecs elements shape payload (Err e) = (chain : Chain) (exact : Bool) → fits chain elements.type (shape_after codecs shape) ≡ true → Encodes (coded (with_array_codecs codecs chain) elements shape) exact payload (Err e)
 
 -- elements that array codecs moved back: what a chain decodes to the elements after, is decoded to these with the codecs before it
 abbrev pub UndoesAll : List ArrayCodec → Elements → List ℕ → ArrayBytes → Result ArrayBytes CodecError → Type 0
-UndoesAll codecs elements shape found result = (chain : Chain) (value : List ℕ) → Decodes chain elements (shape_after codecs shape) value (Ok found) → Decodes (with_array_codecs codecs chain) elements shape value result
+UndoesAll codecs elements shape found result = (chain : Chain) (value : List ℕ) → Decodes (coded chain elements (shape_after codecs shape)) value (Ok found) → Decodes (coded (with_array_codecs codecs chain) elements shape) value result

@@ -7,3 +7,4 @@ pub mod Copies
 pub mod Boxes
 pub mod MovedNumbers
 pub mod MovedBoxes
+pub mod Parts

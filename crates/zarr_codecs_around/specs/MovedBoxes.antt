@@ -13,6 +13,7 @@ use Rattle.zarr_codecs_arrays.specs.declared.array_bytes.ArrayBytes.{ArrayBytes}
 use Rattle.zarr_codecs_arrays.specs.declared.error.CodecError.{CodecError}
 use Rattle.zarr_codecs_arrays.specs.declared.error.CodecError.TheVariants as error
 use Rattle.zarr_codecs_traits.specs.Indexers.{in_box}
+use Rattle.zarr_codecs_traits.specs.Arrays.{coded}
 use Rattle.zarr_codecs_traits.specs.Outcomes.{DecodesPart, IsMoved}
 use Rattle.zarr_codecs_boxes.specs.Regions.{encoded_region}
 use Rattle.zarr_codecs_around.specs.ArrayCodecs.{all_fit}
@@ -77,5 +78,5 @@ TurnsBox codecs elements shape region payload (Err e) = IsInvalid elements.type 
 -- elements of a box that were moved back: where a chain decodes the box after array codecs to the elements after, it decodes the box to these with the codecs before it
 abbrev pub UndoesBox : List ArrayCodec → Elements → List ℕ → Region → ArrayBytes → Result ArrayBytes CodecError → Type 0
 UndoesBox codecs elements shape region found result =
-    (chain : Chain) (stored : Option (List ℕ)) (last : List ℕ) (moved : Region) → IsBoxAfter codecs shape region last moved → DecodesPart chain elements last stored (in_box moved) (Ok found)
-    → DecodesPart (with_array_codecs codecs chain) elements shape stored (in_box region) result
+    (chain : Chain) (stored : Option (List ℕ)) (last : List ℕ) (moved : Region) → IsBoxAfter codecs shape region last moved → DecodesPart (coded chain elements last) stored (in_box moved) (Ok found)
+    → DecodesPart (coded (with_array_codecs codecs chain) elements shape) stored (in_box region) result

@@ -4,6 +4,7 @@ ghost use Rattle.zarr_codecs_meaning.specs.Chains.{Chain};
 ghost use Rattle.zarr_codecs_meaning.specs.Laws.{IsLawfulChain};
 ghost use Rattle.zarr_codecs_meaning.specs.Payloads.{Payload};
 ghost use Rattle.zarr_codecs_meaning.specs.Types.{Elements, is_value};
+ghost use Rattle.zarr_codecs_traits.specs.Arrays.{coded};
 ghost use Rattle.zarr_codecs_traits.specs.Outcomes.{Encodes, MakesBytes, UndoesBytes};
 ghost use Rattle.zarr_codecs_traits.specs.Representations.{known_size};
 ghost use Rattle.zarr_codecs_around.specs.Codecs.{RepresentsAll, all_encoded, all_decoded};
@@ -34,11 +35,10 @@ pub fn encode_made<B: BytesToBytesCodecTraits>(
     codecs: &[B],
     made: Result<Vec<u8>, CodecError>,
 ) -> Result<Vec<u8>, CodecError>
-    ensures { (chain : Chain) (elements : Elements) (shape : List ℕ) (payload : Payload)
-        → IsLawfulChain chain → is_value elements.type elements.fill ≡ true
-        → Encodes chain true elements shape payload made
-        → Encodes (with_codecs chain (map B.meaning codecs.now)) true elements shape payload
-        result }
+    ensures { (chain : Chain) (elements : Elements) (shape : List ℕ) (payload : Payload) →
+        IsLawfulChain chain → is_value elements.type elements.fill ≡ true → Encodes
+        (coded chain elements shape) true payload made → Encodes
+        (coded (with_codecs chain (map B.meaning codecs.now)) elements shape) true payload result }
 {
     match made {
         Ok(value) => encode_all(alloc, codecs, value),

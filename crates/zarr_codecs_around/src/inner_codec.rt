@@ -1,11 +1,11 @@
 //! What codecs that others can stand around encode, where it has to depend on the elements alone.
 ghost use Rattle.std.specs.Prelude.{true};
-ghost use Rattle.zarr_codecs_arrays.specs.Views.{elements_of, payload_of};
+ghost use Rattle.zarr_codecs_arrays.specs.Views.{payload_of};
+ghost use Rattle.zarr_codecs_traits.specs.Arrays.{coded_array};
 ghost use Rattle.zarr_codecs_traits.specs.Outcomes.{Encodes};
 
 use std::alloc::Global;
 use zarr_codecs_arrays::{ArrayBytes, CodecError};
-use zarr_codecs_options::CodecOptions;
 use zarr_codecs_traits::{ArrayToBytesCodecTraits, WholeArray};
 use zarr_sharding_inner::InnerCodec;
 
@@ -16,14 +16,12 @@ pub fn encode_row_major<A: InnerCodec>(
     alloc: Global,
     bytes: ArrayBytes,
     array: WholeArray<'_>,
-    options: &CodecOptions,
 ) -> Result<Vec<u8>, CodecError>
-    ensures { Encodes (A.meaning codec.now) true (elements_of array.entry.elements.now)
-        array.entry.shape.now (payload_of bytes) result }
+    ensures { Encodes (coded_array (A.meaning codec.now) array.entry) true (payload_of bytes) result }
 {
     if codec.encoding_is_function() {
-        return codec.encode(alloc, bytes, array.elements, array.shape, options);
+        return codec.encode_in_order(alloc, bytes, array.elements, array.shape);
     }
     let row_major = codec.row_major(alloc)?;
-    row_major.encode(alloc, bytes, array.elements, array.shape, options)
+    row_major.encode_in_order(alloc, bytes, array.elements, array.shape)
 }

@@ -5,6 +5,7 @@ ghost use Rattle.zarr_grids_boxes.specs.Subsets.{region_of};
 ghost use Rattle.zarr_codecs_meaning.specs.Fits.{is_plain};
 ghost use Rattle.zarr_codecs_arrays.specs.Views.{elements_of};
 ghost use Rattle.zarr_codecs_traits.specs.Indexers.{are_inside, asked_of, in_box};
+ghost use Rattle.zarr_codecs_traits.specs.Arrays.{coded, coded_part};
 ghost use Rattle.zarr_codecs_traits.specs.Outcomes.{DecodesPart};
 ghost use Rattle.zarr_codecs_traits.specs.ReadBytes.{most_read};
 ghost use Rattle.zarr_codecs_traits.specs.Sources.{refused_after};
@@ -19,7 +20,6 @@ use crate::moved_numbers::move_numbers;
 use std::alloc::Global;
 use zarr_codecs_arrays::{ArrayBytes, CodecError};
 use zarr_codecs_bytes::part::ListedPart;
-use zarr_codecs_options::CodecOptions;
 use zarr_codecs_regions::{numbers_asked, test_asked};
 use zarr_codecs_traits::{ArrayPart, ArrayToBytesCodecTraits, BytesPartialDecoderTraits, Indexer};
 use zarr_grids_boxes::walk::count_places;
@@ -31,11 +31,10 @@ pub fn decode_part_after<A: ArrayToBytesCodecTraits, D: BytesPartialDecoderTrait
     alloc: Global,
     source: &mut D,
     part: ArrayPart<'_>,
-    options: &CodecOptions,
 ) -> Result<ArrayBytes, CodecError>
     ensures part { IsTrue (D.is_honest source.old) → DecodesPart
-        (chain_after A.meaning chain.entry) (elements_of part.entry.elements.now)
-        part.entry.shape.now (D.contents source.old) (asked_of part.entry.indexer) result }
+        (coded_part (chain_after A.meaning chain.entry) part.entry) (D.contents source.old)
+        (asked_of part.entry.indexer) result }
     ensures refused { D.refused_calls source.new ≡
         refused_after (D.refused_calls source.old) result }
     ensures given { is_plain (chain_after A.meaning chain.entry) ≡ true →
@@ -53,17 +52,17 @@ pub fn decode_part_after<A: ArrayToBytesCodecTraits, D: BytesPartialDecoderTrait
         return Err(CodecError::Size);
     }
     let Indexer::Subset(subset) = part.indexer else {
-        return decode_asked_after(chain, alloc, source, part, options);
+        return decode_asked_after(chain, alloc, source, part);
     };
     if chain.array_to_array.is_empty() || !takes_any_order(chain.rest) {
-        return decode_asked_after(chain, alloc, source, part, options);
+        return decode_asked_after(chain, alloc, source, part);
     }
     let boxed = BoxPart {
         elements,
         shape,
         subset,
     };
-    decode_box_after(chain, alloc, source, boxed, options)
+    decode_box_after(chain, alloc, source, boxed)
 }
 
 /// The elements of a box, of the value that a source holds. What comes after the codecs before a
@@ -73,13 +72,12 @@ fn decode_box_after<A: ArrayToBytesCodecTraits, D: BytesPartialDecoderTraits>(
     alloc: Global,
     source: &mut D,
     part: BoxPart<'_>,
-    options: &CodecOptions,
 ) -> Result<ArrayBytes, CodecError>
     requires small { product part.shape.now < 2 ^ 63 }
     requires any_order { takes_any_order (A.meaning chain.rest.now) ≡ true }
     ensures part { IsTrue (D.is_honest source.old) → DecodesPart
-        (chain_after A.meaning chain.entry) (elements_of part.entry.elements.now)
-        part.entry.shape.now (D.contents source.old) (in_box (region_of part.entry.subset.now))
+        (coded (chain_after A.meaning chain.entry) (elements_of part.entry.elements.now)
+        part.entry.shape.now) (D.contents source.old) (in_box (region_of part.entry.subset.now))
         result }
     ensures refused { D.refused_calls source.new ≡
         refused_after (D.refused_calls source.old) result }
@@ -108,7 +106,7 @@ fn decode_box_after<A: ArrayToBytesCodecTraits, D: BytesPartialDecoderTraits>(
         array_to_array: last,
         rest,
     };
-    match decode_inner_box(left, alloc, source, inner, options) {
+    match decode_inner_box(left, alloc, source, inner) {
         Ok(found) => undo_box(alloc, first, found, part),
         Err(error) => Err(error),
     }
@@ -121,12 +119,11 @@ fn decode_inner_box<A: ArrayToBytesCodecTraits, D: BytesPartialDecoderTraits>(
     alloc: Global,
     source: &mut D,
     part: BoxPart<'_>,
-    options: &CodecOptions,
 ) -> Result<ArrayBytes, CodecError>
     requires small { product part.shape.now < 2 ^ 63 }
     ensures part { IsTrue (D.is_honest source.old) → DecodesPart
-        (chain_after A.meaning chain.entry) (elements_of part.entry.elements.now)
-        part.entry.shape.now (D.contents source.old) (in_box (region_of part.entry.subset.now))
+        (coded (chain_after A.meaning chain.entry) (elements_of part.entry.elements.now)
+        part.entry.shape.now) (D.contents source.old) (in_box (region_of part.entry.subset.now))
         result }
     ensures refused { D.refused_calls source.new ≡
         refused_after (D.refused_calls source.old) result }
@@ -144,7 +141,7 @@ fn decode_inner_box<A: ArrayToBytesCodecTraits, D: BytesPartialDecoderTraits>(
         shape,
         indexer,
     };
-    decode_asked_after(chain, alloc, source, all, options)
+    decode_asked_after(chain, alloc, source, all)
 }
 
 /// The elements at the places that are asked for, of the value that a source holds. The array
@@ -154,13 +151,12 @@ fn decode_asked_after<A: ArrayToBytesCodecTraits, D: BytesPartialDecoderTraits>(
     alloc: Global,
     source: &mut D,
     part: ArrayPart<'_>,
-    options: &CodecOptions,
 ) -> Result<ArrayBytes, CodecError>
     requires inside { are_inside part.shape.now (asked_of part.indexer) ≡ true }
     requires small { product part.shape.now < 2 ^ 63 }
     ensures part { IsTrue (D.is_honest source.old) → DecodesPart
-        (chain_after A.meaning chain.entry) (elements_of part.entry.elements.now)
-        part.entry.shape.now (D.contents source.old) (asked_of part.entry.indexer) result }
+        (coded_part (chain_after A.meaning chain.entry) part.entry) (D.contents source.old)
+        (asked_of part.entry.indexer) result }
     ensures refused { D.refused_calls source.new ≡
         refused_after (D.refused_calls source.old) result }
     ensures given { is_plain (chain_after A.meaning chain.entry) ≡ true →
@@ -175,7 +171,7 @@ fn decode_asked_after<A: ArrayToBytesCodecTraits, D: BytesPartialDecoderTraits>(
         rest,
     } = chain;
     let Some((first, others)) = array_to_array.split_first() else {
-        return rest.partial_decode(alloc, source, part, options);
+        return rest.partial_decode_in_order(alloc, source, part);
     };
     let (elements, shape) = (part.elements, part.shape);
     let numbers = numbers_asked(alloc, shape, part.indexer)?;
@@ -193,7 +189,7 @@ fn decode_asked_after<A: ArrayToBytesCodecTraits, D: BytesPartialDecoderTraits>(
         shape: moved.shape.as_slice(),
         numbers: moved.numbers.as_slice(),
     };
-    decode_numbers(rest, alloc, source, inner, options)
+    decode_numbers(rest, alloc, source, inner)
 }
 
 /// The elements with some numbers, of the value that a source holds, which the codec decodes.
@@ -202,7 +198,6 @@ fn decode_numbers<A: ArrayToBytesCodecTraits, D: BytesPartialDecoderTraits>(
     alloc: Global,
     source: &mut D,
     part: ListedPart<'_>,
-    options: &CodecOptions,
 ) -> Result<ArrayBytes, CodecError>
     ensures part { IsTrue (D.is_honest source.old) → GivesListed (A.meaning codec.now)
         (D.contents source.old) part.entry result }
@@ -220,5 +215,5 @@ fn decode_numbers<A: ArrayToBytesCodecTraits, D: BytesPartialDecoderTraits>(
         shape,
         indexer,
     };
-    codec.partial_decode(alloc, source, all, options)
+    codec.partial_decode_in_order(alloc, source, all)
 }

@@ -1,14 +1,13 @@
 //! Elements put in the place of others by a codec after array to array codecs.
-ghost use Rattle.std.specs.Prelude.{◌≡◌, ◌^◌, ◌<◌, List, true, IsTrue, OnErr, OnOk};
+ghost use Rattle.std.specs.Prelude.{◌≡◌, ◌^◌, ◌<◌, true, IsTrue, OnErr, OnOk};
 ghost use Rattle.zarr_grids_boxes.specs.Boxes.{product};
-ghost use Rattle.zarr_grids_boxes.specs.Subsets.{region_of};
 ghost use Rattle.zarr_codecs_meaning.specs.Fits.{fits};
-ghost use Rattle.zarr_codecs_meaning.specs.Partial.{encodes_in_part};
-ghost use Rattle.zarr_codecs_meaning.specs.Types.{Cell};
-ghost use Rattle.zarr_codecs_arrays.specs.Views.{elements_of, payload_of};
-ghost use Rattle.zarr_codecs_traits.specs.Indexers.{are_inside, asked_of, in_box, listed};
-ghost use Rattle.zarr_codecs_traits.specs.PartWriting.{IsEncodedInto, IsPlaced, NotEncodedInto, WritesOnce};
+ghost use Rattle.zarr_codecs_arrays.specs.Views.{elements_of};
+ghost use Rattle.zarr_codecs_traits.specs.Indexers.{are_inside, asked_of};
+ghost use Rattle.zarr_codecs_traits.specs.Arrays.{update_part};
+ghost use Rattle.zarr_codecs_traits.specs.PartWriting.{EncodesInto, IsPlaced, NotEncodedInto, WritesOnce};
 ghost use Rattle.zarr_codecs_traits.specs.Sources.{refused_after};
+ghost use Rattle.zarr_codecs_around.specs.Parts.{IsAsRest, boxed_in, coded_listed, part_in, update_boxed, update_listed};
 ghost use Rattle.zarr_codecs_around.specs.Views.{chain_after};
 
 use crate::array_codecs::AfterArrayCodecs;
@@ -19,7 +18,6 @@ use crate::whole_arrays::fits_after;
 use std::alloc::Global;
 use zarr_codecs_arrays::{ArrayBytes, CodecError};
 use zarr_codecs_bytes::part::ListedPart;
-use zarr_codecs_options::CodecOptions;
 use zarr_codecs_regions::{numbers_asked, test_asked};
 use zarr_codecs_traits::{ArrayPart, ArrayToBytesCodecTraits, BytesPartialEncoderTraits, Indexer};
 use zarr_grids_boxes::walk::count_places;
@@ -34,25 +32,18 @@ pub fn encode_part_after<A: ArrayToBytesCodecTraits, E: BytesPartialEncoderTrait
     source: &mut E,
     bytes: ArrayBytes,
     part: ArrayPart<'_>,
-    options: &CodecOptions,
 ) -> Result<(), CodecError>
-    ensures ok { IsTrue (E.is_honest source.old) → OnOk result ((cells : List Cell)
-        × IsEncodedInto (chain_after A.meaning chain.entry)
-        (A.is_function chain.entry.rest.now) (elements_of part.entry.elements.now)
-        part.entry.shape.now
-        (asked_of part.entry.indexer) (payload_of bytes) cells (E.contents source.old)
-        (E.contents source.new)) }
+    ensures ok { IsTrue (E.is_honest source.old) → OnOk result
+        (EncodesInto (part_in A.meaning chain.entry part.entry) (A.is_function chain.entry.rest.now)
+        (update_part part.entry bytes (E.contents source.old)) (E.contents source.new)) }
     ensures placed { IsTrue (E.is_honest source.old) → OnOk result
         (IsPlaced (chain_after A.meaning chain.entry) part.entry.shape.now
         (E.contents source.old)) }
     ensures err { IsTrue (E.is_honest source.old) →
         OnErr result (E.contents source.new ≡ E.contents source.old) }
-    ensures cause { IsTrue (E.is_honest source.old) →
-        encodes_in_part (chain_after A.meaning chain.entry)
-        ≡ encodes_in_part (A.meaning chain.entry.rest.now) → NotEncodedInto
-        (chain_after A.meaning chain.entry)
-        (elements_of part.entry.elements.now) part.entry.shape.now (asked_of part.entry.indexer)
-        (payload_of bytes) (E.contents source.old) result }
+    ensures cause { IsTrue (E.is_honest source.old) → IsAsRest A.meaning chain.entry →
+        NotEncodedInto (part_in A.meaning chain.entry part.entry)
+        (update_part part.entry bytes (E.contents source.old)) result }
     ensures refused { E.refused_calls source.new ≡
         refused_after (E.refused_calls source.old) result }
     ensures once { WritesOnce (E.accepted_writes source.old) (E.accepted_writes source.new) result }
@@ -66,10 +57,10 @@ pub fn encode_part_after<A: ArrayToBytesCodecTraits, E: BytesPartialEncoderTrait
         return Err(CodecError::Size);
     }
     if chain.array_to_array.is_empty() {
-        return encode_asked_after(chain, alloc, source, bytes, part, options);
+        return encode_asked_after(chain, alloc, source, bytes, part);
     }
     let Indexer::Subset(subset) = part.indexer else {
-        return encode_asked_after(chain, alloc, source, bytes, part, options);
+        return encode_asked_after(chain, alloc, source, bytes, part);
     };
     if !fits_after(
         chain.rest,
@@ -85,7 +76,7 @@ pub fn encode_part_after<A: ArrayToBytesCodecTraits, E: BytesPartialEncoderTrait
         shape,
         subset,
     };
-    encode_box_after(chain, alloc, source, bytes, boxed, options)
+    encode_box_after(chain, alloc, source, bytes, boxed)
 }
 
 /// Puts elements in the place of those of a box, in the value that a source holds. What comes after
@@ -96,29 +87,22 @@ fn encode_box_after<A: ArrayToBytesCodecTraits, E: BytesPartialEncoderTraits>(
     source: &mut E,
     bytes: ArrayBytes,
     part: BoxPart<'_>,
-    options: &CodecOptions,
 ) -> Result<(), CodecError>
     requires small { product part.shape.now < 2 ^ 63 }
     requires fits { fits (chain_after A.meaning chain) (elements_of part.elements.now).type
         part.shape.now ≡ true }
-    ensures ok { IsTrue (E.is_honest source.old) → OnOk result ((cells : List Cell)
-        × IsEncodedInto (chain_after A.meaning chain.entry)
-        (A.is_function chain.entry.rest.now) (elements_of part.entry.elements.now)
-        part.entry.shape.now
-        (in_box (region_of part.entry.subset.now)) (payload_of bytes) cells (E.contents source.old)
+    ensures ok { IsTrue (E.is_honest source.old) → OnOk result
+        (EncodesInto (boxed_in A.meaning chain.entry part.entry)
+        (A.is_function chain.entry.rest.now) (update_boxed part.entry bytes (E.contents source.old))
         (E.contents source.new)) }
     ensures placed { IsTrue (E.is_honest source.old) → OnOk result
         (IsPlaced (chain_after A.meaning chain.entry) part.entry.shape.now
         (E.contents source.old)) }
     ensures err { IsTrue (E.is_honest source.old) →
         OnErr result (E.contents source.new ≡ E.contents source.old) }
-    ensures cause { IsTrue (E.is_honest source.old) →
-        encodes_in_part (chain_after A.meaning chain.entry)
-        ≡ encodes_in_part (A.meaning chain.entry.rest.now) → NotEncodedInto
-        (chain_after A.meaning chain.entry)
-        (elements_of part.entry.elements.now) part.entry.shape.now
-        (in_box (region_of part.entry.subset.now)) (payload_of bytes) (E.contents source.old)
-        result }
+    ensures cause { IsTrue (E.is_honest source.old) → IsAsRest A.meaning chain.entry →
+        NotEncodedInto (boxed_in A.meaning chain.entry part.entry)
+        (update_boxed part.entry bytes (E.contents source.old)) result }
     ensures refused { E.refused_calls source.new ≡
         refused_after (E.refused_calls source.old) result }
     ensures once { WritesOnce (E.accepted_writes source.old) (E.accepted_writes source.new) result }
@@ -146,7 +130,7 @@ fn encode_box_after<A: ArrayToBytesCodecTraits, E: BytesPartialEncoderTraits>(
         array_to_array: last,
         rest,
     };
-    encode_inner_box(left, alloc, source, turned, inner, options)
+    encode_inner_box(left, alloc, source, turned, inner)
 }
 
 /// Puts elements in the place of those of a box, in the value that a source holds. What comes after
@@ -157,27 +141,20 @@ fn encode_inner_box<A: ArrayToBytesCodecTraits, E: BytesPartialEncoderTraits>(
     source: &mut E,
     bytes: ArrayBytes,
     part: BoxPart<'_>,
-    options: &CodecOptions,
 ) -> Result<(), CodecError>
     requires small { product part.shape.now < 2 ^ 63 }
-    ensures ok { IsTrue (E.is_honest source.old) → OnOk result ((cells : List Cell)
-        × IsEncodedInto (chain_after A.meaning chain.entry)
-        (A.is_function chain.entry.rest.now) (elements_of part.entry.elements.now)
-        part.entry.shape.now
-        (in_box (region_of part.entry.subset.now)) (payload_of bytes) cells (E.contents source.old)
+    ensures ok { IsTrue (E.is_honest source.old) → OnOk result
+        (EncodesInto (boxed_in A.meaning chain.entry part.entry)
+        (A.is_function chain.entry.rest.now) (update_boxed part.entry bytes (E.contents source.old))
         (E.contents source.new)) }
     ensures placed { IsTrue (E.is_honest source.old) → OnOk result
         (IsPlaced (chain_after A.meaning chain.entry) part.entry.shape.now
         (E.contents source.old)) }
     ensures err { IsTrue (E.is_honest source.old) →
         OnErr result (E.contents source.new ≡ E.contents source.old) }
-    ensures cause { IsTrue (E.is_honest source.old) →
-        encodes_in_part (chain_after A.meaning chain.entry)
-        ≡ encodes_in_part (A.meaning chain.entry.rest.now) → NotEncodedInto
-        (chain_after A.meaning chain.entry)
-        (elements_of part.entry.elements.now) part.entry.shape.now
-        (in_box (region_of part.entry.subset.now)) (payload_of bytes) (E.contents source.old)
-        result }
+    ensures cause { IsTrue (E.is_honest source.old) → IsAsRest A.meaning chain.entry →
+        NotEncodedInto (boxed_in A.meaning chain.entry part.entry)
+        (update_boxed part.entry bytes (E.contents source.old)) result }
     ensures refused { E.refused_calls source.new ≡
         refused_after (E.refused_calls source.old) result }
     ensures once { WritesOnce (E.accepted_writes source.old) (E.accepted_writes source.new) result }
@@ -190,7 +167,7 @@ fn encode_inner_box<A: ArrayToBytesCodecTraits, E: BytesPartialEncoderTraits>(
         shape,
         indexer,
     };
-    encode_asked_after(chain, alloc, source, bytes, all, options)
+    encode_asked_after(chain, alloc, source, bytes, all)
 }
 
 /// Puts elements in the place of those at the places that are asked for, in the value that a source
@@ -201,27 +178,20 @@ fn encode_asked_after<A: ArrayToBytesCodecTraits, E: BytesPartialEncoderTraits>(
     source: &mut E,
     bytes: ArrayBytes,
     part: ArrayPart<'_>,
-    options: &CodecOptions,
 ) -> Result<(), CodecError>
     requires inside { are_inside part.shape.now (asked_of part.indexer) ≡ true }
     requires small { product part.shape.now < 2 ^ 63 }
-    ensures ok { IsTrue (E.is_honest source.old) → OnOk result ((cells : List Cell)
-        × IsEncodedInto (chain_after A.meaning chain.entry)
-        (A.is_function chain.entry.rest.now) (elements_of part.entry.elements.now)
-        part.entry.shape.now
-        (asked_of part.entry.indexer) (payload_of bytes) cells (E.contents source.old)
-        (E.contents source.new)) }
+    ensures ok { IsTrue (E.is_honest source.old) → OnOk result
+        (EncodesInto (part_in A.meaning chain.entry part.entry) (A.is_function chain.entry.rest.now)
+        (update_part part.entry bytes (E.contents source.old)) (E.contents source.new)) }
     ensures placed { IsTrue (E.is_honest source.old) → OnOk result
         (IsPlaced (chain_after A.meaning chain.entry) part.entry.shape.now
         (E.contents source.old)) }
     ensures err { IsTrue (E.is_honest source.old) →
         OnErr result (E.contents source.new ≡ E.contents source.old) }
-    ensures cause { IsTrue (E.is_honest source.old) →
-        encodes_in_part (chain_after A.meaning chain.entry)
-        ≡ encodes_in_part (A.meaning chain.entry.rest.now) → NotEncodedInto
-        (chain_after A.meaning chain.entry)
-        (elements_of part.entry.elements.now) part.entry.shape.now (asked_of part.entry.indexer)
-        (payload_of bytes) (E.contents source.old) result }
+    ensures cause { IsTrue (E.is_honest source.old) → IsAsRest A.meaning chain.entry →
+        NotEncodedInto (part_in A.meaning chain.entry part.entry)
+        (update_part part.entry bytes (E.contents source.old)) result }
     ensures refused { E.refused_calls source.new ≡
         refused_after (E.refused_calls source.old) result }
     ensures once { WritesOnce (E.accepted_writes source.old) (E.accepted_writes source.new) result }
@@ -232,7 +202,7 @@ fn encode_asked_after<A: ArrayToBytesCodecTraits, E: BytesPartialEncoderTraits>(
         rest,
     } = chain;
     let Some((first, others)) = array_to_array.split_first() else {
-        return rest.partial_encode(alloc, source, bytes, part, options);
+        return rest.partial_encode_in_order(alloc, source, bytes, part);
     };
     let (elements, shape) = (part.elements, part.shape);
     let numbers = numbers_asked(alloc, shape, part.indexer)?;
@@ -250,7 +220,7 @@ fn encode_asked_after<A: ArrayToBytesCodecTraits, E: BytesPartialEncoderTraits>(
         shape: moved.shape.as_slice(),
         numbers: moved.numbers.as_slice(),
     };
-    encode_numbers(rest, alloc, source, bytes, inner, options)
+    encode_numbers(rest, alloc, source, bytes, inner)
 }
 
 /// Puts elements in the place of those with some numbers, in the value that a source holds, which
@@ -261,20 +231,17 @@ fn encode_numbers<A: ArrayToBytesCodecTraits, E: BytesPartialEncoderTraits>(
     source: &mut E,
     bytes: ArrayBytes,
     part: ListedPart<'_>,
-    options: &CodecOptions,
 ) -> Result<(), CodecError>
-    ensures ok { IsTrue (E.is_honest source.old) → OnOk result ((cells : List Cell)
-        × IsEncodedInto (A.meaning codec.now) (A.is_function codec.now)
-        (elements_of part.entry.elements.now) part.entry.shape.now
-        (listed part.entry.numbers.now) (payload_of bytes) cells (E.contents source.old)
-        (E.contents source.new)) }
+    ensures ok { IsTrue (E.is_honest source.old) → OnOk result
+        (EncodesInto (coded_listed (A.meaning codec.now) part.entry) (A.is_function codec.now)
+        (update_listed part.entry bytes (E.contents source.old)) (E.contents source.new)) }
     ensures placed { IsTrue (E.is_honest source.old) → OnOk result
         (IsPlaced (A.meaning codec.now) part.entry.shape.now (E.contents source.old)) }
     ensures err { IsTrue (E.is_honest source.old) →
         OnErr result (E.contents source.new ≡ E.contents source.old) }
-    ensures cause { IsTrue (E.is_honest source.old) → NotEncodedInto (A.meaning codec.now)
-        (elements_of part.entry.elements.now) part.entry.shape.now
-        (listed part.entry.numbers.now) (payload_of bytes) (E.contents source.old) result }
+    ensures cause { IsTrue (E.is_honest source.old) → NotEncodedInto
+        (coded_listed (A.meaning codec.now) part.entry) (update_listed part.entry bytes
+        (E.contents source.old)) result }
     ensures refused { E.refused_calls source.new ≡
         refused_after (E.refused_calls source.old) result }
     ensures once { WritesOnce (E.accepted_writes source.old) (E.accepted_writes source.new) result }
@@ -287,5 +254,5 @@ fn encode_numbers<A: ArrayToBytesCodecTraits, E: BytesPartialEncoderTraits>(
         shape,
         indexer,
     };
-    codec.partial_encode(alloc, source, bytes, all, options)
+    codec.partial_encode_in_order(alloc, source, bytes, all)
 }

@@ -1,7 +1,7 @@
 //! Parts of arrays, decoded of values that bytes codecs made and that were read whole.
 ghost use Rattle.std.specs.Prelude.{◌≡◌, ℕ, map};
-ghost use Rattle.zarr_codecs_arrays.specs.Views.{elements_of};
 ghost use Rattle.zarr_codecs_traits.specs.Indexers.{asked_of};
+ghost use Rattle.zarr_codecs_traits.specs.Arrays.{coded_part};
 ghost use Rattle.zarr_codecs_traits.specs.Outcomes.{DecodesPart};
 ghost use Rattle.zarr_codecs_traits.specs.Sources.{refused_after, value_bytes};
 ghost use Rattle.zarr_codecs_around.specs.Views.{with_codecs};
@@ -9,7 +9,6 @@ ghost use Rattle.zarr_codecs_around.specs.Views.{with_codecs};
 use crate::byte_codecs::decode_all;
 use std::alloc::Global;
 use zarr_codecs_arrays::{ArrayBytes, CodecError};
-use zarr_codecs_options::CodecOptions;
 use zarr_codecs_regions::test_asked;
 use zarr_codecs_traits::{
     ArrayPart, ArrayToBytesCodecTraits, BytesToBytesCodecTraits, MemorySource,
@@ -24,11 +23,10 @@ pub fn decode_stored_part<A: ArrayToBytesCodecTraits, B: BytesToBytesCodecTraits
     codecs: &[B],
     value: Option<Vec<u8>>,
     part: ArrayPart<'_>,
-    options: &CodecOptions,
 ) -> Result<ArrayBytes, CodecError>
-    ensures part { DecodesPart (with_codecs (A.meaning codec.now) (map B.meaning codecs.now))
-        (elements_of part.entry.elements.now) part.entry.shape.now (value_bytes value)
-        (asked_of part.entry.indexer) result }
+    ensures part { DecodesPart (coded_part (with_codecs (A.meaning codec.now)
+        (map B.meaning codecs.now)) part.entry) (value_bytes value) (asked_of part.entry.indexer)
+        result }
     ensures no_source { (count : ℕ) → refused_after count result ≡ count }
 {
     if !codec.fits(alloc, part.elements.data_type(), part.shape)? {
@@ -38,10 +36,10 @@ pub fn decode_stored_part<A: ArrayToBytesCodecTraits, B: BytesToBytesCodecTraits
         return Err(error);
     }
     let Some(value) = value else {
-        return decode_inside(codec, alloc, None, part, options);
+        return decode_inside(codec, alloc, None, part);
     };
     match decode_all(alloc, codecs, value) {
-        Ok(inside) => decode_inside(codec, alloc, Some(inside), part, options),
+        Ok(inside) => decode_inside(codec, alloc, Some(inside), part),
         Err(error) => Err(error),
     }
 }
@@ -52,12 +50,11 @@ fn decode_inside<A: ArrayToBytesCodecTraits>(
     alloc: Global,
     inside: Option<Vec<u8>>,
     part: ArrayPart<'_>,
-    options: &CodecOptions,
 ) -> Result<ArrayBytes, CodecError>
-    ensures part { DecodesPart (A.meaning codec.now) (elements_of part.entry.elements.now)
-        part.entry.shape.now (value_bytes inside) (asked_of part.entry.indexer) result }
+    ensures part { DecodesPart (coded_part (A.meaning codec.now) part.entry) (value_bytes inside)
+        (asked_of part.entry.indexer) result }
     ensures no_source { (count : ℕ) → refused_after count result ≡ count }
 {
     let mut source = MemorySource::new(inside);
-    codec.partial_decode(alloc, &mut source, part, options)
+    codec.partial_decode_in_order(alloc, &mut source, part)
 }

@@ -10,7 +10,6 @@ use crate::inner_codec::encode_row_major;
 use crate::stored_parts::decode_stored_part;
 use std::alloc::{AllocError, Global};
 use zarr_codecs_arrays::{ArrayBytes, CodecError, Elements};
-use zarr_codecs_options::CodecOptions;
 use zarr_codecs_regions::encode_whole;
 use zarr_codecs_traits::{
     ArrayPart, ArrayToBytesCodecTraits, BytesPartialDecoderTraits, BytesPartialEncoderTraits,
@@ -88,35 +87,33 @@ impl<A: InnerCodec, B: BytesToBytesCodecTraits> ArrayToBytesCodecTraits for Then
         self.codec.fits(alloc, data_type, shape)
     }
 
-    fn encode(
+    fn encode_in_order(
         &self,
         alloc: Global,
         bytes: ArrayBytes,
         elements: &Elements,
         shape: &[u64],
-        options: &CodecOptions,
     ) -> Result<Vec<u8>, CodecError> {
         if self.bytes_to_bytes.is_empty() {
-            return self.codec.encode(alloc, bytes, elements, shape, options);
+            return self.codec.encode_in_order(alloc, bytes, elements, shape);
         }
         let array = WholeArray { elements, shape };
-        let made = encode_row_major(&self.codec, alloc, bytes, array, options);
+        let made = encode_row_major(&self.codec, alloc, bytes, array);
         encode_made(alloc, self.bytes_to_bytes.as_slice(), made)
     }
 
-    fn decode(
+    fn decode_in_order(
         &self,
         alloc: Global,
         value: Vec<u8>,
         elements: &Elements,
         shape: &[u64],
-        options: &CodecOptions,
     ) -> Result<ArrayBytes, CodecError> {
         if !self.codec.fits(alloc, elements.data_type(), shape)? {
             return Err(CodecError::Fit);
         }
         match decode_all(alloc, self.bytes_to_bytes.as_slice(), value) {
-            Ok(value) => self.codec.decode(alloc, value, elements, shape, options),
+            Ok(value) => self.codec.decode_in_order(alloc, value, elements, shape),
             Err(error) => Err(error),
         }
     }
@@ -153,19 +150,18 @@ impl<A: InnerCodec, B: BytesToBytesCodecTraits> ArrayToBytesCodecTraits for Then
         self.codec.partial_decode_granularity(alloc, shape)
     }
 
-    fn partial_decode<D: BytesPartialDecoderTraits>(
+    fn partial_decode_in_order<D: BytesPartialDecoderTraits>(
         &self,
         alloc: Global,
         source: &mut D,
         part: ArrayPart<'_>,
-        options: &CodecOptions,
     ) -> Result<ArrayBytes, CodecError> {
         if self.bytes_to_bytes.is_empty() {
-            return self.codec.partial_decode(alloc, source, part, options);
+            return self.codec.partial_decode_in_order(alloc, source, part);
         }
         let codecs = self.bytes_to_bytes.as_slice();
         match read_value(alloc, source) {
-            Ok(value) => decode_stored_part(&self.codec, alloc, codecs, value, part, options),
+            Ok(value) => decode_stored_part(&self.codec, alloc, codecs, value, part),
             Err(error) => Err(error),
         }
     }
@@ -179,37 +175,34 @@ impl<A: InnerCodec, B: BytesToBytesCodecTraits> ArrayToBytesCodecTraits for Then
         alloc: Global,
         bytes: ArrayBytes,
         part: ArrayPart<'_>,
-        options: &CodecOptions,
     ) -> Result<Option<ValuePatches>, CodecError> {
         if !self.bytes_to_bytes.is_empty() {
             return Ok(None);
         }
-        self.codec.encode_patches(alloc, bytes, part, options)
+        self.codec.encode_patches(alloc, bytes, part)
     }
 
-    fn partial_encode<E: BytesPartialEncoderTraits>(
+    fn partial_encode_in_order<E: BytesPartialEncoderTraits>(
         &self,
         alloc: Global,
         source: &mut E,
         bytes: ArrayBytes,
         part: ArrayPart<'_>,
-        options: &CodecOptions,
     ) -> Result<(), CodecError> {
         if self.bytes_to_bytes.is_empty() {
             return self
                 .codec
-                .partial_encode(alloc, source, bytes, part, options);
+                .partial_encode_in_order(alloc, source, bytes, part);
         }
-        encode_whole(self, alloc, source, bytes, part, options)
+        encode_whole(self, alloc, source, bytes, part)
     }
 
-    fn compact(
+    fn compact_in_order(
         &self,
         alloc: Global,
         value: &[u8],
         elements: &Elements,
         shape: &[u64],
-        options: &CodecOptions,
     ) -> Result<Option<Vec<u8>>, CodecError> {
         if !self.codec.fits(alloc, elements.data_type(), shape)? {
             return Err(CodecError::Fit);
@@ -218,7 +211,7 @@ impl<A: InnerCodec, B: BytesToBytesCodecTraits> ArrayToBytesCodecTraits for Then
             return Ok(None);
         }
         let array = WholeArray { elements, shape };
-        compact_inside(self, alloc, value, array, options)
+        compact_inside(self, alloc, value, array)
     }
 
     #[tactic(auto, using(crate::proofs::Copied::described_alike))]
@@ -241,7 +234,6 @@ fn compact_inside<A: InnerCodec, B: BytesToBytesCodecTraits>(
     alloc: Global,
     value: &[u8],
     array: WholeArray<'_>,
-    options: &CodecOptions,
 ) -> Result<Option<Vec<u8>>, CodecError>
     requires fit { fits (A.meaning (codec_of codec.now)) (elements_of array.elements.now).type
         array.shape.now ≡ true }
@@ -257,7 +249,7 @@ fn compact_inside<A: InnerCodec, B: BytesToBytesCodecTraits>(
     let (elements, shape) = (array.elements, array.shape);
     match codec
         .codec
-        .compact(alloc, inside.as_slice(), elements, shape, options)
+        .compact_in_order(alloc, inside.as_slice(), elements, shape)
     {
         Ok(Some(made)) => match encode_all(alloc, codecs, made) {
             Ok(encoded) => Ok(Some(encoded)),

@@ -4,7 +4,6 @@ use crate::byte_codecs::copies;
 use crate::then_bytes::ThenBytes;
 use std::alloc::{AllocError, Global};
 use zarr_codecs_arrays::{ArrayBytes, CodecError, Elements};
-use zarr_codecs_options::CodecOptions;
 use zarr_codecs_regions::WholeValues;
 use zarr_codecs_traits::{ArrayToBytesCodecTraits, BytesToBytesCodecTraits};
 use zarr_codecs_types::DataType;
@@ -32,9 +31,8 @@ impl<A: InnerCodec, B: BytesToBytesCodecTraits> WholeValues for ThenBytes<A, B> 
         bytes: ArrayBytes,
         elements: &Elements,
         shape: &[u64],
-        options: &CodecOptions,
     ) -> Result<Vec<u8>, CodecError> {
-        self.encode(alloc, bytes, elements, shape, options)
+        self.encode_in_order(alloc, bytes, elements, shape)
     }
 
     fn decode_value(
@@ -43,9 +41,8 @@ impl<A: InnerCodec, B: BytesToBytesCodecTraits> WholeValues for ThenBytes<A, B> 
         value: Vec<u8>,
         elements: &Elements,
         shape: &[u64],
-        options: &CodecOptions,
     ) -> Result<ArrayBytes, CodecError> {
-        self.decode(alloc, value, elements, shape, options)
+        self.decode_in_order(alloc, value, elements, shape)
     }
 
     fn keeps_fill(&self) -> bool {

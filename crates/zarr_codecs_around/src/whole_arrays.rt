@@ -4,6 +4,7 @@ ghost use Rattle.zarr_codecs_meaning.specs.Fits.{fits};
 ghost use Rattle.zarr_codecs_types.specs.Views.{type_of};
 ghost use Rattle.zarr_codecs_arrays.specs.Views.{elements_of, payload_of};
 ghost use Rattle.zarr_codecs_traits.specs.Compactions.{Compacts};
+ghost use Rattle.zarr_codecs_traits.specs.Arrays.{coded_array};
 ghost use Rattle.zarr_codecs_traits.specs.Outcomes.{Decodes, Encodes};
 ghost use Rattle.zarr_codecs_traits.specs.Representations.{RepresentsArray};
 ghost use Rattle.zarr_codecs_around.specs.Views.{codecs_of, with_array_codecs};
@@ -12,7 +13,6 @@ use crate::array_codecs::{move_all, shape_after, undo_all};
 use std::alloc::{AllocError, Global};
 use zarr_codecs_array_to_array::ArrayToArrayCodec;
 use zarr_codecs_arrays::{ArrayBytes, CodecError};
-use zarr_codecs_options::CodecOptions;
 use zarr_codecs_traits::{ArrayToBytesCodecTraits, BytesRepresentation, WholeArray};
 use zarr_codecs_types::DataType;
 
@@ -43,11 +43,9 @@ pub fn encode_after<A: ArrayToBytesCodecTraits>(
     codecs: &[ArrayToArrayCodec],
     bytes: ArrayBytes,
     array: WholeArray<'_>,
-    options: &CodecOptions,
 ) -> Result<Vec<u8>, CodecError>
-    ensures { Encodes (with_array_codecs (codecs_of codecs.now) (A.meaning rest.now))
-        (A.is_function rest.now) (elements_of array.entry.elements.now) array.entry.shape.now
-        (payload_of bytes) result }
+    ensures { Encodes (coded_array (with_array_codecs (codecs_of codecs.now) (A.meaning rest.now))
+        array.entry) (A.is_function rest.now) (payload_of bytes) result }
 {
     let elements = array.elements;
     let last = match shape_after(alloc, codecs, array.shape) {
@@ -58,7 +56,7 @@ pub fn encode_after<A: ArrayToBytesCodecTraits>(
         return Err(CodecError::Fit);
     }
     match move_all(alloc, codecs, bytes, elements, array.shape) {
-        Ok(moved) => rest.encode(alloc, moved, elements, last.as_slice(), options),
+        Ok(moved) => rest.encode_in_order(alloc, moved, elements, last.as_slice()),
         Err(error) => Err(error),
     }
 }
@@ -71,17 +69,16 @@ pub fn decode_after<A: ArrayToBytesCodecTraits>(
     codecs: &[ArrayToArrayCodec],
     value: Vec<u8>,
     array: WholeArray<'_>,
-    options: &CodecOptions,
 ) -> Result<ArrayBytes, CodecError>
-    ensures { Decodes (with_array_codecs (codecs_of codecs.now) (A.meaning rest.now))
-        (elements_of array.entry.elements.now) array.entry.shape.now value.items result }
+    ensures { Decodes (coded_array (with_array_codecs (codecs_of codecs.now) (A.meaning rest.now))
+        array.entry) value.items result }
 {
     let elements = array.elements;
     let last = match shape_after(alloc, codecs, array.shape) {
         Ok(last) => last,
         Err(error) => return Err(error),
     };
-    match rest.decode(alloc, value, elements, last.as_slice(), options) {
+    match rest.decode_in_order(alloc, value, elements, last.as_slice()) {
         Ok(found) => undo_all(alloc, codecs, found, elements, array.shape),
         Err(error) => Err(error),
     }
@@ -112,13 +109,12 @@ pub fn compact_after<A: ArrayToBytesCodecTraits>(
     codecs: &[ArrayToArrayCodec],
     value: &[u8],
     array: WholeArray<'_>,
-    options: &CodecOptions,
 ) -> Result<Option<Vec<u8>>, CodecError>
     ensures { Compacts (with_array_codecs (codecs_of codecs.now) (A.meaning rest.now))
         (elements_of array.entry.elements.now).type array.entry.shape.now value.now result }
 {
     match shape_after(alloc, codecs, array.shape) {
-        Ok(last) => rest.compact(alloc, value, array.elements, last.as_slice(), options),
+        Ok(last) => rest.compact_in_order(alloc, value, array.elements, last.as_slice()),
         Err(error) => Err(error),
     }
 }

@@ -19,6 +19,7 @@ use Rattle.zarr_codecs_arrays.specs.Outcomes.{IsCounted, IsValid, Validates}
 use Rattle.zarr_codecs_arrays.specs.declared.error.CodecError.{CodecError}
 use Rattle.zarr_codecs_arrays.specs.declared.error.CodecError.TheVariants as error
 use Rattle.zarr_codecs_arrays.proofs.FixedCells.{fixed_in-some, length-fixed_cells}
+use Rattle.zarr_codecs_traits.specs.Arrays.{coded}
 use Rattle.zarr_codecs_traits.specs.Outcomes.{IsDecoded}
 use Rattle.zarr_codecs_bytes.specs.Orders.{all_ordered}
 use Rattle.zarr_codecs_bytes.proofs.Orders.{cells_ordered, length-all_ordered}
@@ -93,7 +94,7 @@ decoded_made order elements shape value made read =
 -- ---- what the test of values says
 
 pub read_valid : (order : Option Endianness) (elements : Elements) (shape value made : List ℕ) (cells : List Cell) → IsRead order elements.type (product shape) value made → IsValid elements.type (fixed made) (product shape) cells
-    → IsDecoded (bytes order) elements shape value (fixed made)
+    → IsDecoded (coded (bytes order) elements shape) value (fixed made)
 read_valid order elements shape value made cells read valid =
     let width = bytes_in (components elements.type) in
     let counted = made_counted order elements.type (product shape) value made read in

@@ -20,6 +20,7 @@ use Rattle.zarr_codecs_arrays.proofs.FixedCells.{flat_map-fixed_cells}
 use Rattle.zarr_codecs_regions.proofs.Shown.{map_put, shown_cells, standing_decoded}
 use Rattle.zarr_codecs_traits.specs.Indexers.{Asked, are_inside, numbers_asked, put}
 use Rattle.zarr_codecs_traits.specs.Patches.{Patch, patched}
+use Rattle.zarr_codecs_traits.specs.Arrays.{coded, update_of}
 use Rattle.zarr_codecs_traits.specs.PartWriting.{IsEncodedInto, cells_shown}
 use Rattle.zarr_codecs_bytes.specs.Orders.{all_ordered}
 use Rattle.zarr_codecs_bytes.specs.Writing.{PutsElements}
@@ -120,7 +121,7 @@ encoded_over order elements shape asked given content cells value patches before
     ap Some (sym (flat_map-map cell_bytes step (put ns cells before)) ∙ (ap (flat_map cell_bytes) made ∙ flat_map-fixed_cells width new h.some even))
 
 pub put_over : (order : Option Endianness) (elements : Elements) (shape : List ℕ) (asked : Asked) (given content : List ℕ) (cells : List Cell) (value : List ℕ) (patches : List Patch)
-    → IsPutOver order elements shape asked given content cells value patches → IsEncodedInto (bytes order) true elements shape asked (fixed given) cells (Some value) (Some (patched value patches))
+    → IsPutOver order elements shape asked given content cells value patches → IsEncodedInto (coded (bytes order) elements shape) true (update_of asked (fixed given) (Some value)) cells (Some (patched value patches))
 put_over order elements shape asked given content cells value patches h =
     let type = elements.type in
     let width = bytes_in (components type) in

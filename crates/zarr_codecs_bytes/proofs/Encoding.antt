@@ -12,12 +12,13 @@ use Rattle.zarr_codecs_meaning.specs.Payloads.{fixed}
 use Rattle.zarr_codecs_meaning.specs.Types.{Cell, Elements, cell_bytes, components, is_fixed, is_value}
 use Rattle.zarr_codecs_meaning.proofs.Representations.{encoded_size}
 use Rattle.zarr_codecs_arrays.specs.Outcomes.{IsValid}
+use Rattle.zarr_codecs_traits.specs.Arrays.{coded}
 use Rattle.zarr_codecs_traits.specs.Outcomes.{IsEncoded}
 use Rattle.zarr_codecs_bytes.specs.Orders.{all_ordered}
 use Rattle.zarr_codecs_bytes.proofs.PartWriting.{given_cells}
 
 pub bytes_encodes : (order : Option Endianness) (elements : Elements) (shape given made : List ℕ) (cells : List Cell) → is_value elements.type elements.fill ≡ true → fits (bytes order) elements.type shape ≡ true
-    → IsValid elements.type (fixed given) (product shape) cells → made ≡ all_ordered order (components elements.type) given → IsEncoded (bytes order) true elements shape (fixed given) cells made
+    → IsValid elements.type (fixed given) (product shape) cells → made ≡ all_ordered order (components elements.type) given → IsEncoded (coded (bytes order) elements shape) true (fixed given) cells made
 bytes_encodes order elements shape given made cells fill fit valid is =
     let parts = components elements.type in
     let g = given_cells elements.type given (product shape) cells (and_parts (is_fixed elements.type) (order_fits order parts) fit).0 valid in

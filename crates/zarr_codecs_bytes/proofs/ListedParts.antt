@@ -12,13 +12,14 @@ use Rattle.zarr_codecs_meaning.specs.Types.{DataType, components, bytes_in, is_f
 use Rattle.zarr_codecs_types.specs.Parts.{word_sized}
 use Rattle.zarr_codecs_arrays.proofs.FixedCells.{fixed_cells-nil}
 use Rattle.zarr_codecs_traits.specs.Indexers.{listed}
+use Rattle.zarr_codecs_traits.specs.Arrays.{coded}
 use Rattle.zarr_codecs_traits.specs.Outcomes.{IsPart}
 use Rattle.zarr_codecs_bytes.specs.Parts.{IsListed}
 use Rattle.zarr_codecs_bytes.proofs.PartDecoding.{no_places, too_wide}
 
 -- where nothing is stored, each number has the fill value
 pub filled_listed : (chain : Chain) (elements : Elements) (shape numbers : List ℕ) (payload : Payload) → list_all (λ n. nat_lt n (product shape)) numbers ≡ true → fits chain elements.type shape ≡ true
-    → cells_in elements.type payload ≡ Some (replicate (length numbers) elements.fill) → IsPart chain elements shape None (listed numbers) payload
+    → cells_in elements.type payload ≡ Some (replicate (length numbers) elements.fill) → IsPart (coded chain elements shape) None (listed numbers) payload
 filled_listed chain elements shape numbers payload inside fit lists = record {
   cells = replicate (length numbers) elements.fill;
   fit = fit;

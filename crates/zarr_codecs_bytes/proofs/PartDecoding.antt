@@ -27,6 +27,7 @@ use Rattle.zarr_codecs_arrays.specs.Views.{payload_of}
 use Rattle.zarr_codecs_arrays.proofs.Counts.{known_width}
 use Rattle.zarr_codecs_arrays.proofs.FixedCells.{fixed_cells-nil, get_or-fixed_cells, length-fixed_cells}
 use Rattle.zarr_codecs_traits.specs.Indexers.{Asked, in_box, are_inside, shape_has, numbers_asked, numbers_of}
+use Rattle.zarr_codecs_traits.specs.Arrays.{coded}
 use Rattle.zarr_codecs_traits.specs.Outcomes.{DecodesPart, IsPart}
 use Rattle.zarr_codecs_regions.proofs.InsideArray.{inside_product}
 use Rattle.zarr_codecs_bytes.specs.Orders.{all_ordered}
@@ -87,7 +88,7 @@ part_made order elements shape asked count value extracted made read =
 -- ---- what the test of values says
 
 pub part_valid : (order : Option Endianness) (elements : Elements) (shape : List ℕ) (asked : Asked) (count : ℕ) (value extracted made : List ℕ) (cells : List Cell) → IsPartRead order elements.type shape asked count value extracted made
-    → IsValid elements.type (fixed made) count cells → IsPart (bytes order) elements shape (Some value) asked (fixed made)
+    → IsValid elements.type (fixed made) count cells → IsPart (coded (bytes order) elements shape) (Some value) asked (fixed made)
 part_valid order elements shape asked count value extracted made cells read valid =
     let width = bytes_in (components elements.type) in
     let counted = made_counted order elements.type count extracted made (part_as_read order elements.type shape asked count value extracted made read) in
@@ -129,7 +130,7 @@ larger_too type shape region l inside (inr wide) = inr (at_width (byte_width typ
 
 -- as many fill values as the box has places
 pub filled_part : (chain : Chain) (elements : Elements) (shape : List ℕ) (region : Region) (payload : Payload) → length region.shape ≡ length region.start → shape_has shape region ≡ true → fits chain elements.type shape ≡ true
-    → cells_in elements.type payload ≡ Some (replicate (product region.shape) elements.fill) → IsPart chain elements shape None (in_box region) payload
+    → cells_in elements.type payload ≡ Some (replicate (product region.shape) elements.fill) → IsPart (coded chain elements shape) None (in_box region) payload
 filled_part chain elements shape region payload l inside fit lists = record {
   cells = replicate (product region.shape) elements.fill;
   fit = fit;
@@ -196,7 +197,7 @@ no_width type shape region size one_size h all small l inside =
 -- ---- where nothing is stored
 
 pub fills_part : (chain : Chain) (elements : Elements) (shape : List ℕ) (region : Region) (count : ℕ) (r : Result ArrayBytes CodecError) → length region.shape ≡ length region.start → shape_has shape region ≡ true → fits chain elements.type shape ≡ true → count ≡ product region.shape
-    → IfOk r (λ made. cells_in elements.type (payload_of made) ≡ Some (replicate count elements.fill)) → IfErr r (λ e. e ≢ error.Memory → (e ≡ error.Size) × IsTooLarge elements.type count) → DecodesPart chain elements shape None (in_box region) r
+    → IfOk r (λ made. cells_in elements.type (payload_of made) ≡ Some (replicate count elements.fill)) → IfErr r (λ e. e ≢ error.Memory → (e ≡ error.Size) × IsTooLarge elements.type count) → DecodesPart (coded chain elements shape) None (in_box region) r
 fills_part chain elements shape region count (Ok made) l inside fit many lists large = filled_part chain elements shape region (payload_of made) l inside fit (lists ∙ ap (λ n. Some (replicate n elements.fill)) many)
 fills_part chain elements shape region count (Err error.Memory) l inside fit many lists large = tt
 fills_part chain elements shape region count (Err error.Size) l inside fit many lists large = larger_too elements.type shape region l inside (subst (IsTooLarge elements.type) many (large (λ q. cc)).1)
@@ -217,7 +218,7 @@ fills_part chain elements shape region count (Err (error.Other text)) l inside f
 
 -- elements of a part that cannot be counted
 pub uncounted_part : (chain : Chain) (elements : Elements) (shape : List ℕ) (stored : Option (List ℕ)) (region : Region) (type : DataType) (count : ℕ) (e : CodecError) → length region.shape ≡ length region.start → shape_has shape region ≡ true → type ≡ elements.type → count ≡ product region.shape
-    → (e ≢ error.Memory → (e ≡ error.Size) × IsTooLarge type count) → DecodesPart chain elements shape stored (in_box region) (Err e)
+    → (e ≢ error.Memory → (e ≡ error.Size) × IsTooLarge type count) → DecodesPart (coded chain elements shape) stored (in_box region) (Err e)
 uncounted_part chain elements shape stored region type count error.Memory l inside same many large = tt
 uncounted_part chain elements shape stored region type count error.Size l inside same many large = larger_too elements.type shape region l inside (subst (λ t. IsTooLarge t (product region.shape)) same (subst (IsTooLarge type) many (large (λ q. cc)).1))
 uncounted_part chain elements shape stored region type count error.Source l inside same many large = tt

@@ -9,6 +9,7 @@ use Rattle.zarr_codecs_meaning.proofs.Lists.{some_same}
 use Rattle.zarr_codecs_arrays.specs.declared.error.CodecError.{CodecError}
 use Rattle.zarr_codecs_arrays.specs.declared.error.CodecError.TheVariants as error
 use Rattle.zarr_codecs_traits.specs.Indexers.{Asked}
+use Rattle.zarr_codecs_traits.specs.Arrays.{coded}
 use Rattle.zarr_codecs_traits.specs.Outcomes.{DecodesPart}
 use Rattle.zarr_codecs_traits.specs.Sources.{RangesRefused, ReadRefused, any_past_end, ends_past}
 use Rattle.zarr_codecs_traits.specs.declared.byte_range.ByteRange.{ByteRange}
@@ -28,7 +29,7 @@ ranges_refused contents value ranges (Err error.Memory) is within refused = tt
 ranges_refused contents value ranges (Err e) is within refused = absurd refused
 
 -- a part that is not read is not decoded
-pub part_unread : (chain : Chain) (elements : Elements) (shape : List ℕ) (stored : Option (List ℕ)) (asked : Asked) (e : CodecError) → ReadRefused {A = Option (Vec ℕ Global)} (Err e) → DecodesPart chain elements shape stored asked (Err e)
+pub part_unread : (chain : Chain) (elements : Elements) (shape : List ℕ) (stored : Option (List ℕ)) (asked : Asked) (e : CodecError) → ReadRefused {A = Option (Vec ℕ Global)} (Err e) → DecodesPart (coded chain elements shape) stored asked (Err e)
 part_unread chain elements shape stored asked error.Source refused = tt
 part_unread chain elements shape stored asked error.Memory refused = tt
 part_unread chain elements shape stored asked e refused = absurd refused

@@ -32,6 +32,7 @@ use Rattle.zarr_codecs_arrays.proofs.FixedCells.{fixed_in-whole, flat_map-fixed_
 use Rattle.zarr_codecs_regions.proofs.Extracts.{element_bytes, bytes_of_place, place_width, elements_are, element_within, array_laid}
 use Rattle.zarr_codecs_regions.proofs.InsideArray.{all_places, inside_places}
 use Rattle.zarr_codecs_traits.specs.Indexers.{shape_has, numbers_of}
+use Rattle.zarr_codecs_traits.specs.Arrays.{coded}
 use Rattle.zarr_codecs_traits.specs.PartEncoding.{EncodesPart, cells_with_box}
 use Rattle.zarr_codecs_traits.specs.Patches.{any_too_far, cut_patches, overwritten, patched, patches_in, written_at}
 use Rattle.zarr_codecs_traits.specs.declared.byte_range.ByteRange.{ByteRange}
@@ -298,21 +299,20 @@ given_cells type given count cells fit valid =
 
 pub part_encodes : (order : Option Endianness) (part : BoxPart) (given : List ℕ) (cells : List Cell) (patches : ValuePatches) → fits (bytes order) (elements_of part.elements.now).type [] ≡ true
     → IsValid (elements_of part.elements.now).type (fixed given) (product part.region.now.shape.items) cells → PatchesPart (bytes order) part given (patches_in patches)
-    → EncodesPart (bytes order) true (elements_of part.elements.now) part.shape.now (region_of part.region.now) (fixed given) (Ok (Some patches))
+    → EncodesPart (coded (bytes order) (elements_of part.elements.now) part.shape.now) true (region_of part.region.now) (fixed given) (Ok (Some patches))
 part_encodes order part given cells patches fit valid h =
     let elements = elements_of part.elements.now in
     let shape = part.shape.now in
     let g = given_cells elements.type given (product part.region.now.shape.items) cells (and_parts (is_fixed elements.type) (order_fits order (components elements.type)) fit).0 valid in
     let encodes : (value : List ℕ) (before : List Cell) → decoded (bytes order) elements shape value ≡ Some before → encoded (bytes order) elements shape (cells_with_box shape elements.fill (region_of part.region.now) cells before) ≡ Some (patched value (patches_in patches)) =
-    λ value before is. ap (λ cs. encoded (bytes order) elements shape (cells_with_box shape elements.fill (region_of part.region.now) cs before)) g.are ∙ h.encodes value before is in (
-      cells,
-      record {
-        ranges = refl;
-        valid = valid;
-        fit = fit;
-        inside = part.inside;
-        near = h.near;
-        encodes = λ _. encodes;
-        stands = λ _. encodes;
-      },
-    )
+    λ value before is. ap (λ cs. encoded (bytes order) elements shape (cells_with_box shape elements.fill (region_of part.region.now) cs before)) g.are ∙ h.encodes value before is in
+    record {
+      cells = cells;
+      ranges = refl;
+      valid = valid;
+      fit = fit;
+      inside = part.inside;
+      near = h.near;
+      encodes = λ _. encodes;
+      stands = λ _. encodes;
+    }

@@ -14,6 +14,7 @@ use Rattle.zarr_codecs_arrays.specs.Views.{elements_of}
 use Rattle.zarr_codecs_arrays.specs.declared.array_bytes.ArrayBytes.{ArrayBytes}
 use Rattle.zarr_codecs_arrays.specs.declared.error.CodecError.{CodecError}
 use Rattle.zarr_codecs_traits.specs.Indexers.{in_box, listed, numbers_of}
+use Rattle.zarr_codecs_traits.specs.Arrays.{coded}
 use Rattle.zarr_codecs_traits.specs.Outcomes.{DecodesPart}
 use Rattle.zarr_codecs_traits.specs.PartEncoding.{cells_with_box}
 use Rattle.zarr_codecs_traits.specs.ReadBytes.{most_of_numbers, most_read}
@@ -31,7 +32,7 @@ part_width part = bytes_in (components (elements_of part.elements.now).type)
 
 -- the elements of a part, of what is stored, or why there are none
 abbrev pub GivesPart : Chain → Option (List ℕ) → BoxPart → Result ArrayBytes CodecError → Type 0
-GivesPart chain stored part result = DecodesPart chain (elements_of part.elements.now) part.shape.now stored (in_box (region_of part.region.now)) result
+GivesPart chain stored part result = DecodesPart (coded chain (elements_of part.elements.now) part.shape.now) stored (in_box (region_of part.region.now)) result
 
 -- how many bytes are taken at most of what is stored, for the elements of a part
 abbrev pub most_of_part : Chain → Option (List ℕ) → BoxPart → ℕ
@@ -65,7 +66,7 @@ listed_width part = bytes_in (components (elements_of part.elements.now).type)
 
 -- the elements with these numbers, of what is stored, or why there are none
 abbrev pub GivesListed : Chain → Option (List ℕ) → ListedPart → Result ArrayBytes CodecError → Type 0
-GivesListed chain stored part result = DecodesPart chain (elements_of part.elements.now) part.shape.now stored (listed part.numbers.now) result
+GivesListed chain stored part result = DecodesPart (coded chain (elements_of part.elements.now) part.shape.now) stored (listed part.numbers.now) result
 
 -- how many bytes are taken at most of what is stored, for the elements with these numbers
 abbrev pub most_of_listed : Chain → Option (List ℕ) → ListedPart → ℕ

@@ -9,7 +9,6 @@ use crate::swapping::swapped;
 use crate::writing::write_asked;
 use std::alloc::{AllocError, Global};
 use zarr_codecs_arrays::{ArrayBytes, CodecError, Elements, takes_all_bytes};
-use zarr_codecs_options::CodecOptions;
 use zarr_codecs_regions::{WholeValues, are_below, is_inside};
 use zarr_codecs_traits::{
     ArrayPart, ArrayToBytesCodecTraits, BytesPartialDecoderTraits, BytesPartialEncoderTraits,
@@ -55,6 +54,7 @@ impl BytesCodec {
     ghost use Rattle.zarr_grids_boxes.specs.Subsets.{region_of};
     ghost use Rattle.zarr_codecs_arrays.specs.Views.{elements_of, payload_of};
     ghost use Rattle.zarr_codecs_traits.specs.Indexers.{in_box, listed};
+    ghost use Rattle.zarr_codecs_traits.specs.Arrays.{coded_part};
     ghost use Rattle.zarr_codecs_traits.specs.Outcomes.{DecodesPart};
     ghost use Rattle.zarr_codecs_traits.specs.PartEncoding.{EncodesPart};
     ghost use Rattle.zarr_codecs_traits.specs.ReadBytes.{most_read};
@@ -139,8 +139,8 @@ impl BytesCodec {
         array: ArrayPart<'_>,
         region: &ArraySubset,
     ) -> Result<ArrayBytes, CodecError>
-        ensures part { IsTrue (D.is_honest source.old) → DecodesPart (bytes_chain self)
-            (elements_of array.entry.elements.now) array.entry.shape.now (D.contents source.old)
+        ensures part { IsTrue (D.is_honest source.old) → DecodesPart
+            (coded_part (bytes_chain self) array.entry) (D.contents source.old)
             (in_box (region_of region.now)) result }
         ensures refused { D.refused_calls source.new ≡
             refused_after (D.refused_calls source.old) result }
@@ -173,9 +173,9 @@ impl BytesCodec {
         array: ArrayPart<'_>,
         numbers: &[u64],
     ) -> Result<ArrayBytes, CodecError>
-        ensures part { IsTrue (D.is_honest source.old) → DecodesPart (bytes_chain self)
-            (elements_of array.entry.elements.now) array.entry.shape.now (D.contents source.old)
-            (listed numbers.now) result }
+        ensures part { IsTrue (D.is_honest source.old) → DecodesPart
+            (coded_part (bytes_chain self) array.entry) (D.contents source.old) (listed numbers.now)
+            result }
         ensures refused { D.refused_calls source.new ≡
             refused_after (D.refused_calls source.old) result }
         ensures given { IsTrue (D.is_honest source.old) → D.given_bytes source.new
@@ -210,8 +210,8 @@ impl BytesCodec {
         array: ArrayPart<'_>,
         region: &ArraySubset,
     ) -> Result<Option<ValuePatches>, CodecError>
-        ensures { EncodesPart (bytes_chain self) true (elements_of array.entry.elements.now)
-            array.entry.shape.now (region_of region.now) (payload_of bytes) result }
+        ensures { EncodesPart (coded_part (bytes_chain self) array.entry) true
+            (region_of region.now) (payload_of bytes) result }
     {
         let (elements, shape) = (array.elements, array.shape);
         if !self.suits(elements.data_type()) {
@@ -259,13 +259,12 @@ impl ArrayToBytesCodecTraits for BytesCodec {
         Ok(self.suits(data_type))
     }
 
-    fn encode(
+    fn encode_in_order(
         &self,
         alloc: Global,
         bytes: ArrayBytes,
         elements: &Elements,
         shape: &[u64],
-        _: &CodecOptions,
     ) -> Result<Vec<u8>, CodecError> {
         let data_type = elements.data_type();
         if !self.suits(data_type) {
@@ -284,13 +283,12 @@ impl ArrayToBytesCodecTraits for BytesCodec {
         }
     }
 
-    fn decode(
+    fn decode_in_order(
         &self,
         alloc: Global,
         value: Vec<u8>,
         elements: &Elements,
         shape: &[u64],
-        _: &CodecOptions,
     ) -> Result<ArrayBytes, CodecError> {
         let data_type = elements.data_type();
         if !self.suits(data_type) {
@@ -348,12 +346,11 @@ impl ArrayToBytesCodecTraits for BytesCodec {
         shape.to_vec(alloc)
     }
 
-    fn partial_decode<D: BytesPartialDecoderTraits>(
+    fn partial_decode_in_order<D: BytesPartialDecoderTraits>(
         &self,
         alloc: Global,
         source: &mut D,
         part: ArrayPart<'_>,
-        _: &CodecOptions,
     ) -> Result<ArrayBytes, CodecError> {
         match part.indexer {
             Indexer::Subset(region) => self.decode_box(alloc, source, part, region),
@@ -370,7 +367,6 @@ impl ArrayToBytesCodecTraits for BytesCodec {
         alloc: Global,
         bytes: ArrayBytes,
         part: ArrayPart<'_>,
-        _: &CodecOptions,
     ) -> Result<Option<ValuePatches>, CodecError> {
         match part.indexer {
             Indexer::Subset(region) => self.encode_box(alloc, bytes, part, region),
@@ -378,24 +374,22 @@ impl ArrayToBytesCodecTraits for BytesCodec {
         }
     }
 
-    fn partial_encode<E: BytesPartialEncoderTraits>(
+    fn partial_encode_in_order<E: BytesPartialEncoderTraits>(
         &self,
         alloc: Global,
         source: &mut E,
         bytes: ArrayBytes,
         part: ArrayPart<'_>,
-        options: &CodecOptions,
     ) -> Result<(), CodecError> {
-        write_asked(alloc, source, *self, bytes, part, options)
+        write_asked(alloc, source, *self, bytes, part)
     }
 
-    fn compact(
+    fn compact_in_order(
         &self,
         _: Global,
         _: &[u8],
         elements: &Elements,
         _: &[u64],
-        _: &CodecOptions,
     ) -> Result<Option<Vec<u8>>, CodecError> {
         if !self.suits(elements.data_type()) {
             return Err(CodecError::Fit);
@@ -433,9 +427,8 @@ impl WholeValues for BytesCodec {
         bytes: ArrayBytes,
         elements: &Elements,
         shape: &[u64],
-        options: &CodecOptions,
     ) -> Result<Vec<u8>, CodecError> {
-        self.encode(alloc, bytes, elements, shape, options)
+        self.encode_in_order(alloc, bytes, elements, shape)
     }
 
     fn decode_value(
@@ -444,9 +437,8 @@ impl WholeValues for BytesCodec {
         value: Vec<u8>,
         elements: &Elements,
         shape: &[u64],
-        options: &CodecOptions,
     ) -> Result<ArrayBytes, CodecError> {
-        self.decode(alloc, value, elements, shape, options)
+        self.decode_in_order(alloc, value, elements, shape)
     }
 
     fn keeps_fill(&self) -> bool {

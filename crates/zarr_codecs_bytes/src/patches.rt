@@ -3,6 +3,7 @@ ghost use Rattle.std.specs.Prelude.{◌≡◌, ◌*◌, ◌<◌, ◌^◌, length
 ghost use Rattle.zarr_grids_boxes.specs.Boxes.{product};
 ghost use Rattle.zarr_grids_boxes.specs.Subsets.{region_of};
 ghost use Rattle.zarr_codecs_arrays.specs.Views.{elements_of, payload_of};
+ghost use Rattle.zarr_codecs_traits.specs.Arrays.{coded};
 ghost use Rattle.zarr_codecs_traits.specs.PartEncoding.{EncodesPart};
 ghost use Rattle.zarr_codecs_traits.specs.Patches.{patches_in};
 ghost use Rattle.zarr_codecs_bytes.specs.Parts.{PatchesPart, fits_part, part_width};
@@ -26,8 +27,8 @@ pub(crate) fn replace_part(
     part: BoxPart,
 ) -> Result<Option<ValuePatches>, CodecError>
     requires { fits_part (bytes_chain codec) part ≡ true }
-    ensures { EncodesPart (bytes_chain codec) true (elements_of part.entry.elements.now)
-        part.entry.shape.now (region_of part.entry.region.now) (payload_of bytes) result }
+    ensures { EncodesPart (coded (bytes_chain codec) (elements_of part.entry.elements.now)
+        part.entry.shape.now) true (region_of part.entry.region.now) (payload_of bytes) result }
 {
     let size = match value_size(part) {
         Ok(size) => size,

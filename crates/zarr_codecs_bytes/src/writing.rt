@@ -5,6 +5,7 @@ ghost use Rattle.zarr_codecs_meaning.specs.Types.{Cell, bytes_in, components, is
 ghost use Rattle.zarr_codecs_arrays.specs.Views.{elements_of, payload_of};
 ghost use Rattle.zarr_codecs_traits.specs.Indexers.{are_inside, asked_of, numbers_asked};
 ghost use Rattle.zarr_codecs_traits.specs.Patches.{any_too_far, patched, patches_in};
+ghost use Rattle.zarr_codecs_traits.specs.Arrays.{coded_part, update_part};
 ghost use Rattle.zarr_codecs_traits.specs.PartWriting.{IsEncodedInto, NotEncodedInto, WritesOnce};
 ghost use Rattle.zarr_codecs_traits.specs.Sources.{refused_after};
 ghost use Rattle.zarr_codecs_regions.specs.Whole.{CanBePut};
@@ -18,7 +19,6 @@ use crate::part::BoxPart;
 use crate::sizes::array_size;
 use std::alloc::{AllocError, Global};
 use zarr_codecs_arrays::{ArrayBytes, CodecError};
-use zarr_codecs_options::CodecOptions;
 use zarr_codecs_regions::{encode_whole, test_given};
 use zarr_codecs_traits::{ArrayPart, ByteRange, BytesPartialEncoderTraits, Indexer, ValuePatches};
 
@@ -32,17 +32,15 @@ pub(crate) fn write_asked<E: BytesPartialEncoderTraits>(
     codec: BytesCodec,
     bytes: ArrayBytes,
     part: ArrayPart<'_>,
-    options: &CodecOptions,
 ) -> Result<(), CodecError>
-    ensures ok { IsTrue (E.is_honest source.old) → OnOk result ((cells : List Cell)
-        × IsEncodedInto (bytes_chain codec) true (elements_of part.entry.elements.now)
-        part.entry.shape.now (asked_of part.entry.indexer) (payload_of bytes) cells
-        (E.contents source.old) (E.contents source.new)) }
+    ensures ok { IsTrue (E.is_honest source.old) → OnOk result
+        ((cells : List Cell) × IsEncodedInto (coded_part (bytes_chain codec) part.entry) true
+        (update_part part.entry bytes (E.contents source.old)) cells (E.contents source.new)) }
     ensures err { IsTrue (E.is_honest source.old) →
         OnErr result (E.contents source.new ≡ E.contents source.old) }
-    ensures cause { IsTrue (E.is_honest source.old) → NotEncodedInto (bytes_chain codec)
-        (elements_of part.entry.elements.now) part.entry.shape.now (asked_of part.entry.indexer)
-        (payload_of bytes) (E.contents source.old) result }
+    ensures cause { IsTrue (E.is_honest source.old) → NotEncodedInto
+        (coded_part (bytes_chain codec) part.entry) (update_part part.entry bytes
+        (E.contents source.old)) result }
     ensures refused { E.refused_calls source.new ≡
         refused_after (E.refused_calls source.old) result }
     ensures once { WritesOnce (E.accepted_writes source.old) (E.accepted_writes source.new) result }
@@ -53,7 +51,7 @@ pub(crate) fn write_asked<E: BytesPartialEncoderTraits>(
     }
     match source.size() {
         Ok(Some(total)) => write_over(alloc, source, codec, bytes, part, total),
-        Ok(None) => encode_whole(&codec, alloc, source, bytes, part, options),
+        Ok(None) => encode_whole(&codec, alloc, source, bytes, part),
         Err(error) => Err(error),
     }
 }
@@ -72,15 +70,14 @@ fn write_over<E: BytesPartialEncoderTraits>(
         (asked_of part.indexer) (payload_of bytes) }
     requires sized { IsTrue (E.is_honest source.old) →
         Some total ≡ option_map length (E.contents source.old) }
-    ensures ok { IsTrue (E.is_honest source.old) → OnOk result ((cells : List Cell)
-        × IsEncodedInto (bytes_chain codec) true (elements_of part.entry.elements.now)
-        part.entry.shape.now (asked_of part.entry.indexer) (payload_of bytes) cells
-        (E.contents source.old) (E.contents source.new)) }
+    ensures ok { IsTrue (E.is_honest source.old) → OnOk result
+        ((cells : List Cell) × IsEncodedInto (coded_part (bytes_chain codec) part.entry) true
+        (update_part part.entry bytes (E.contents source.old)) cells (E.contents source.new)) }
     ensures err { IsTrue (E.is_honest source.old) →
         OnErr result (E.contents source.new ≡ E.contents source.old) }
-    ensures cause { IsTrue (E.is_honest source.old) → NotEncodedInto (bytes_chain codec)
-        (elements_of part.entry.elements.now) part.entry.shape.now (asked_of part.entry.indexer)
-        (payload_of bytes) (E.contents source.old) result }
+    ensures cause { IsTrue (E.is_honest source.old) → NotEncodedInto
+        (coded_part (bytes_chain codec) part.entry) (update_part part.entry bytes
+        (E.contents source.old)) result }
     ensures refused { E.refused_calls source.new ≡
         refused_after (E.refused_calls source.old) result }
     ensures once { WritesOnce (E.accepted_writes source.old) (E.accepted_writes source.new) result }
@@ -107,15 +104,14 @@ fn asked_patches(
 ) -> Result<ValuePatches, CodecError>
     requires given { CanBePut (bytes_chain codec) (elements_of part.elements.now) part.shape.now
         (asked_of part.indexer) (payload_of bytes) }
-    ensures ok { (value : List ℕ) → length value ≡ total → IfOk result (λ patches.
-        (cells : List Cell) × IsEncodedInto (bytes_chain codec) true
-        (elements_of part.entry.elements.now) part.entry.shape.now (asked_of part.entry.indexer)
-        (payload_of bytes) cells (Some value)
+    ensures ok { (value : List ℕ) → length value ≡ total → IfOk result
+        (λ patches. (cells : List Cell) × IsEncodedInto (coded_part (bytes_chain codec) part.entry)
+        true (update_part part.entry bytes (Some value)) cells
         (Some (patched value (patches_in patches)))) }
     ensures near { IfOk result (λ patches. any_too_far (patches_in patches) ≡ false) }
-    ensures cause { (value : List ℕ) → length value ≡ total → NotEncodedInto (bytes_chain codec)
-        (elements_of part.entry.elements.now) part.entry.shape.now (asked_of part.entry.indexer)
-        (payload_of bytes) (Some value) result }
+    ensures cause { (value : List ℕ) → length value ≡ total → NotEncodedInto
+        (coded_part (bytes_chain codec) part.entry) (update_part part.entry bytes (Some value))
+        result }
     ensures no_source { (count : ℕ) → refused_after count result ≡ count }
 {
     let data_type = part.elements.data_type();

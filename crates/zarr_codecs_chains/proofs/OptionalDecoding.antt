@@ -17,6 +17,7 @@ use Rattle.zarr_codecs_arrays.specs.declared.array_bytes.ArrayBytes.{ArrayBytes}
 use Rattle.zarr_codecs_arrays.specs.declared.error.CodecError.{CodecError}
 use Rattle.zarr_codecs_arrays.specs.declared.error.CodecError.TheVariants as error
 use Rattle.zarr_codecs_array_to_array.specs.declared.codec.ArrayToArrayCodec.{ArrayToArrayCodec}
+use Rattle.zarr_codecs_traits.specs.Arrays.{coded}
 use Rattle.zarr_codecs_traits.specs.Outcomes.{Decodes, UndoesBytes}
 use Rattle.zarr_codecs_sections.specs.Laws.{found_read}
 use Rattle.zarr_codecs_sections.specs.Marks.{AreMarked, chosen, count_ones}
@@ -27,7 +28,7 @@ use Rattle.zarr_codecs_chains.specs.Inside.{FindsInner, FindsMarked}
 use Rattle.zarr_codecs_chains.proofs.OptionalEncoding.{chosen_count, optional_is}
 
 -- what is found in the value of an array that the chain suits
-pub found_decodes : (chain : Chain) (elements : Elements) (shape value : List ℕ) (r : Result ArrayBytes CodecError) → fits chain elements.type shape ≡ true → FindsInner (decoded chain elements shape value) elements.type r → Decodes chain elements shape value r
+pub found_decodes : (chain : Chain) (elements : Elements) (shape value : List ℕ) (r : Result ArrayBytes CodecError) → fits chain elements.type shape ≡ true → FindsInner (decoded chain elements shape value) elements.type r → Decodes (coded chain elements shape) value r
 found_decodes chain elements shape value (Ok bytes) fit h = record { cells = h.0; fit = fit; lists = h.2; is = h.1 }
 found_decodes chain elements shape value (Err error.Damage) fit h = (fit, h)
 found_decodes chain elements shape value (Err error.Memory) fit h = tt
@@ -161,7 +162,7 @@ mask_found mask values elements inner shape value front back masks cut is h =
 -- what is found of each section is what is decoded
 pub options_decode : (mask values : Chain) (elements : Elements) (inner : DataType) (shape value front back : List ℕ) (masks : List Cell) (r : Result ArrayBytes CodecError)
     → fits (optional mask values) elements.type shape ≡ true → masked_of value ≡ Some (front, back) → inner_type elements.type ≡ Some inner → decoded mask (zero_filled bool) shape front ≡ Some masks
-    → FindsInner (option_map (spread masks) (found_read (λ count. decoded values (zero_filled inner) (count ∷ [])) masks back)) (optional_of inner) r → Decodes (optional mask values) elements shape value r
+    → FindsInner (option_map (spread masks) (found_read (λ count. decoded values (zero_filled inner) (count ∷ [])) masks back)) (optional_of inner) r → Decodes (coded (optional mask values) elements shape) value r
 options_decode mask values elements inner shape value front back masks r fit cut is h below =
     let chain = optional mask values in
     found_decodes chain elements shape value r fit

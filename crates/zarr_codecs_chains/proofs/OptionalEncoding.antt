@@ -14,6 +14,7 @@ use Rattle.zarr_codecs_meaning.proofs.Representations.{encoded_size}
 use Rattle.zarr_codecs_arrays.specs.Outcomes.{IsValid}
 use Rattle.zarr_codecs_arrays.specs.declared.error.CodecError.{CodecError}
 use Rattle.zarr_codecs_arrays.specs.declared.error.CodecError.TheVariants as error
+use Rattle.zarr_codecs_traits.specs.Arrays.{coded}
 use Rattle.zarr_codecs_traits.specs.Outcomes.{Encodes, MakesBytes}
 use Rattle.zarr_codecs_sections.specs.Marks.{AreMarked, chosen, count_ones}
 use Rattle.zarr_codecs_around.specs.Codecs.{all_encoded}
@@ -79,7 +80,7 @@ some_made chain type cells count (Err e) same some h = absurd h
 
 -- what is made of the elements of an array that the chain suits
 pub makes_encodes : (chain : Chain) (elements : Elements) (shape : List ℕ) (payload : Payload) (cells : List Cell) (r : Result (Vec ℕ Global) CodecError)
-    → IsLawfulChain chain → is_value elements.type elements.fill ≡ true → fits chain elements.type shape ≡ true → IsValid elements.type payload (product shape) cells → MakesInner chain elements shape cells r → Encodes chain true elements shape payload r
+    → IsLawfulChain chain → is_value elements.type elements.fill ≡ true → fits chain elements.type shape ≡ true → IsValid elements.type payload (product shape) cells → MakesInner chain elements shape cells r → Encodes (coded chain elements shape) true payload r
 makes_encodes chain elements shape payload cells (Ok value) lawful fill fit valid whole =
     let are : AreCells elements shape cells = record { fill = fill; values = valid.values; whole = valid.is.many } in (
       cells,

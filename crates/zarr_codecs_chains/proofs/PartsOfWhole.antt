@@ -8,6 +8,7 @@ use Rattle.zarr_codecs_arrays.specs.declared.array_bytes.ArrayBytes.{ArrayBytes}
 use Rattle.zarr_codecs_arrays.specs.declared.error.CodecError.{CodecError}
 use Rattle.zarr_codecs_arrays.specs.declared.error.CodecError.TheVariants as error
 use Rattle.zarr_codecs_traits.specs.Indexers.{Asked, are_inside, numbers_asked}
+use Rattle.zarr_codecs_traits.specs.Arrays.{coded}
 use Rattle.zarr_codecs_traits.specs.Outcomes.{Decodes, DecodesPart}
 use Rattle.zarr_codecs_traits.specs.Sources.{refused_after}
 use Rattle.zarr_codecs_chains.specs.Selecting.{reads_whole}
@@ -28,7 +29,7 @@ none_read (sharded subchunk inner index location) elements shape value ns whole 
 
 -- what is not decoded whole is not read in part, for the same reason
 pub part_undecoded : (chain : Chain) (elements : Elements) (shape value : List ℕ) (asked : Asked) (e : CodecError) → reads_whole chain ≡ true → are_inside shape asked ≡ true
-    → Decodes chain elements shape value (Err e) → DecodesPart chain elements shape (Some value) asked (Err e)
+    → Decodes (coded chain elements shape) value (Err e) → DecodesPart (coded chain elements shape) (Some value) asked (Err e)
 part_undecoded chain elements shape value asked error.Fit whole inside h = h
 part_undecoded chain elements shape value asked error.Damage whole inside h = (h.0, inside, none_read chain elements shape value (numbers_asked shape asked) whole h.1)
 part_undecoded chain elements shape value asked error.Size whole inside h = h
@@ -36,7 +37,7 @@ part_undecoded chain elements shape value asked error.Memory whole inside h = tt
 part_undecoded chain elements shape value asked e whole inside h = absurd h
 
 -- such a decoding calls no source
-pub undecoded_source : (chain : Chain) (elements : Elements) (shape value : List ℕ) (e : CodecError) (count : ℕ) → Decodes chain elements shape value (Err e) → refused_after {A = ArrayBytes} count (Err e) ≡ count
+pub undecoded_source : (chain : Chain) (elements : Elements) (shape value : List ℕ) (e : CodecError) (count : ℕ) → Decodes (coded chain elements shape) value (Err e) → refused_after {A = ArrayBytes} count (Err e) ≡ count
 undecoded_source chain elements shape value error.Fit count h = refl
 undecoded_source chain elements shape value error.Damage count h = refl
 undecoded_source chain elements shape value error.Size count h = refl

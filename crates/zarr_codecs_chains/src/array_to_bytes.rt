@@ -22,7 +22,6 @@ use std::alloc::{AllocError, Global};
 use zarr_codecs_arrays::{ArrayBytes, CodecError, Elements};
 use zarr_codecs_bytes::BytesCodec;
 use zarr_codecs_configurations::is_too_deep;
-use zarr_codecs_options::CodecOptions;
 use zarr_codecs_packbits::PackBitsCodec;
 use zarr_codecs_regions::encode_whole;
 use zarr_codecs_traits::{
@@ -119,28 +118,26 @@ impl<B: BytesToBytesCodecTraits> ArrayToBytesCodecTraits for ArrayToBytesCodec<B
         fits_codec(self, alloc, data_type, shape)
     }
 
-    fn encode(
+    fn encode_in_order(
         &self,
         alloc: Global,
         bytes: ArrayBytes,
         elements: &Elements,
         shape: &[u64],
-        options: &CodecOptions,
     ) -> Result<Vec<u8>, CodecError> {
         let array = WholeArray { elements, shape };
-        encode_codec(self, alloc, bytes, array, options)
+        encode_codec(self, alloc, bytes, array)
     }
 
-    fn decode(
+    fn decode_in_order(
         &self,
         alloc: Global,
         value: Vec<u8>,
         elements: &Elements,
         shape: &[u64],
-        options: &CodecOptions,
     ) -> Result<ArrayBytes, CodecError> {
         let array = WholeArray { elements, shape };
-        decode_codec(self, alloc, value, array, options)
+        decode_codec(self, alloc, value, array)
     }
 
     fn encoded_representation(
@@ -188,20 +185,19 @@ impl<B: BytesToBytesCodecTraits> ArrayToBytesCodecTraits for ArrayToBytesCodec<B
         }
     }
 
-    fn partial_decode<D: BytesPartialDecoderTraits>(
+    fn partial_decode_in_order<D: BytesPartialDecoderTraits>(
         &self,
         alloc: Global,
         source: &mut D,
         part: ArrayPart<'_>,
-        options: &CodecOptions,
     ) -> Result<ArrayBytes, CodecError> {
         match self {
-            ArrayToBytesCodec::Bytes(codec) => codec.partial_decode(alloc, source, part, options),
+            ArrayToBytesCodec::Bytes(codec) => codec.partial_decode_in_order(alloc, source, part),
             ArrayToBytesCodec::PackBits(codec) => {
-                codec.partial_decode(alloc, source, part, options)
+                codec.partial_decode_in_order(alloc, source, part)
             }
             ArrayToBytesCodec::Vlen(_) | ArrayToBytesCodec::Optional(_) => {
-                decode_asked(self, alloc, source, part, options)
+                decode_asked(self, alloc, source, part)
             }
         }
     }
@@ -219,42 +215,37 @@ impl<B: BytesToBytesCodecTraits> ArrayToBytesCodecTraits for ArrayToBytesCodec<B
         alloc: Global,
         bytes: ArrayBytes,
         part: ArrayPart<'_>,
-        options: &CodecOptions,
     ) -> Result<Option<ValuePatches>, CodecError> {
         match self {
-            ArrayToBytesCodec::Bytes(codec) => codec.encode_patches(alloc, bytes, part, options),
-            ArrayToBytesCodec::PackBits(codec) => codec.encode_patches(alloc, bytes, part, options),
+            ArrayToBytesCodec::Bytes(codec) => codec.encode_patches(alloc, bytes, part),
+            ArrayToBytesCodec::PackBits(codec) => codec.encode_patches(alloc, bytes, part),
             ArrayToBytesCodec::Vlen(_) | ArrayToBytesCodec::Optional(_) => Ok(None),
         }
     }
 
-    fn partial_encode<E: BytesPartialEncoderTraits>(
+    fn partial_encode_in_order<E: BytesPartialEncoderTraits>(
         &self,
         alloc: Global,
         source: &mut E,
         bytes: ArrayBytes,
         part: ArrayPart<'_>,
-        options: &CodecOptions,
     ) -> Result<(), CodecError> {
         match self {
             ArrayToBytesCodec::Bytes(codec) => {
-                codec.partial_encode(alloc, source, bytes, part, options)
+                codec.partial_encode_in_order(alloc, source, bytes, part)
             }
             ArrayToBytesCodec::PackBits(_)
             | ArrayToBytesCodec::Vlen(_)
-            | ArrayToBytesCodec::Optional(_) => {
-                encode_whole(self, alloc, source, bytes, part, options)
-            }
+            | ArrayToBytesCodec::Optional(_) => { encode_whole(self, alloc, source, bytes, part) }
         }
     }
 
-    fn compact(
+    fn compact_in_order(
         &self,
         alloc: Global,
         _: &[u8],
         elements: &Elements,
         shape: &[u64],
-        _: &CodecOptions,
     ) -> Result<Option<Vec<u8>>, CodecError> {
         if !fits_codec(self, alloc, elements.data_type(), shape)? {
             return Err(CodecError::Fit);

@@ -5,7 +5,6 @@ use std::alloc::{AllocError, Global};
 use zarr_codecs_around::byte_codecs::{copies, decode_all, encode_all, represent_all};
 use zarr_codecs_around::stored_parts::decode_stored_part;
 use zarr_codecs_arrays::{ArrayBytes, CodecError, Elements};
-use zarr_codecs_options::CodecOptions;
 use zarr_codecs_regions::encode_whole;
 use zarr_codecs_traits::{
     ArrayPart, ArrayToBytesCodecTraits, BytesPartialDecoderTraits, BytesPartialEncoderTraits,
@@ -44,30 +43,28 @@ impl<B: BytesToBytesCodecTraits> ArrayToBytesCodecTraits for BytesChain<B> {
         self.array_to_bytes.fits(alloc, data_type, shape)
     }
 
-    fn encode(
+    fn encode_in_order(
         &self,
         alloc: Global,
         bytes: ArrayBytes,
         elements: &Elements,
         shape: &[u64],
-        options: &CodecOptions,
     ) -> Result<Vec<u8>, CodecError> {
         match self
             .array_to_bytes
-            .encode(alloc, bytes, elements, shape, options)
+            .encode_in_order(alloc, bytes, elements, shape)
         {
             Ok(made) => encode_all(alloc, self.bytes_to_bytes.as_slice(), made),
             Err(error) => Err(error),
         }
     }
 
-    fn decode(
+    fn decode_in_order(
         &self,
         alloc: Global,
         value: Vec<u8>,
         elements: &Elements,
         shape: &[u64],
-        options: &CodecOptions,
     ) -> Result<ArrayBytes, CodecError> {
         if !self
             .array_to_bytes
@@ -78,7 +75,7 @@ impl<B: BytesToBytesCodecTraits> ArrayToBytesCodecTraits for BytesChain<B> {
         match decode_all(alloc, self.bytes_to_bytes.as_slice(), value) {
             Ok(value) => self
                 .array_to_bytes
-                .decode(alloc, value, elements, shape, options),
+                .decode_in_order(alloc, value, elements, shape),
             Err(error) => Err(error),
         }
     }
@@ -118,20 +115,19 @@ impl<B: BytesToBytesCodecTraits> ArrayToBytesCodecTraits for BytesChain<B> {
         self.array_to_bytes.partial_decode_granularity(alloc, shape)
     }
 
-    fn partial_decode<D: BytesPartialDecoderTraits>(
+    fn partial_decode_in_order<D: BytesPartialDecoderTraits>(
         &self,
         alloc: Global,
         source: &mut D,
         part: ArrayPart<'_>,
-        options: &CodecOptions,
     ) -> Result<ArrayBytes, CodecError> {
         let codec = &self.array_to_bytes;
         if self.bytes_to_bytes.is_empty() {
-            return codec.partial_decode(alloc, source, part, options);
+            return codec.partial_decode_in_order(alloc, source, part);
         }
         let codecs = self.bytes_to_bytes.as_slice();
         match read_value(alloc, source) {
-            Ok(value) => decode_stored_part(codec, alloc, codecs, value, part, options),
+            Ok(value) => decode_stored_part(codec, alloc, codecs, value, part),
             Err(error) => Err(error),
         }
     }
@@ -145,38 +141,34 @@ impl<B: BytesToBytesCodecTraits> ArrayToBytesCodecTraits for BytesChain<B> {
         alloc: Global,
         bytes: ArrayBytes,
         part: ArrayPart<'_>,
-        options: &CodecOptions,
     ) -> Result<Option<ValuePatches>, CodecError> {
         if !self.bytes_to_bytes.is_empty() {
             return Ok(None);
         }
-        self.array_to_bytes
-            .encode_patches(alloc, bytes, part, options)
+        self.array_to_bytes.encode_patches(alloc, bytes, part)
     }
 
-    fn partial_encode<E: BytesPartialEncoderTraits>(
+    fn partial_encode_in_order<E: BytesPartialEncoderTraits>(
         &self,
         alloc: Global,
         source: &mut E,
         bytes: ArrayBytes,
         part: ArrayPart<'_>,
-        options: &CodecOptions,
     ) -> Result<(), CodecError> {
         if self.bytes_to_bytes.is_empty() {
             return self
                 .array_to_bytes
-                .partial_encode(alloc, source, bytes, part, options);
+                .partial_encode_in_order(alloc, source, bytes, part);
         }
-        encode_whole(self, alloc, source, bytes, part, options)
+        encode_whole(self, alloc, source, bytes, part)
     }
 
-    fn compact(
+    fn compact_in_order(
         &self,
         alloc: Global,
         _: &[u8],
         elements: &Elements,
         shape: &[u64],
-        _: &CodecOptions,
     ) -> Result<Option<Vec<u8>>, CodecError> {
         if !self
             .array_to_bytes

@@ -16,7 +16,6 @@ use zarr_codecs_array_to_array::ArrayToArrayCodec;
 use zarr_codecs_arrays::{ArrayBytes, CodecError, Elements};
 use zarr_codecs_bytes::BytesCodec;
 use zarr_codecs_configurations::any_too_deep;
-use zarr_codecs_options::CodecOptions;
 use zarr_codecs_traits::{
     ArrayPart, ArrayToBytesCodecTraits, BytesPartialDecoderTraits, BytesPartialEncoderTraits,
     BytesRepresentation, BytesToBytesCodecTraits, ValuePatches, WholeArray,
@@ -166,28 +165,26 @@ impl<B: BytesToBytesCodecTraits> ArrayToBytesCodecTraits for CodecChain<B> {
         fits_chain(self, alloc, data_type, shape)
     }
 
-    fn encode(
+    fn encode_in_order(
         &self,
         alloc: Global,
         bytes: ArrayBytes,
         elements: &Elements,
         shape: &[u64],
-        options: &CodecOptions,
     ) -> Result<Vec<u8>, CodecError> {
         let array = WholeArray { elements, shape };
-        encode_chain(self, alloc, bytes, array, options)
+        encode_chain(self, alloc, bytes, array)
     }
 
-    fn decode(
+    fn decode_in_order(
         &self,
         alloc: Global,
         value: Vec<u8>,
         elements: &Elements,
         shape: &[u64],
-        options: &CodecOptions,
     ) -> Result<ArrayBytes, CodecError> {
         let array = WholeArray { elements, shape };
-        decode_chain(self, alloc, value, array, options)
+        decode_chain(self, alloc, value, array)
     }
 
     fn encoded_representation(
@@ -223,15 +220,14 @@ impl<B: BytesToBytesCodecTraits> ArrayToBytesCodecTraits for CodecChain<B> {
         shape.to_vec(alloc)
     }
 
-    fn partial_decode<D: BytesPartialDecoderTraits>(
+    fn partial_decode_in_order<D: BytesPartialDecoderTraits>(
         &self,
         alloc: Global,
         source: &mut D,
         part: ArrayPart<'_>,
-        options: &CodecOptions,
     ) -> Result<ArrayBytes, CodecError> {
         if self.array_to_array.is_empty() {
-            return self.others.partial_decode(alloc, source, part, options);
+            return self.others.partial_decode_in_order(alloc, source, part);
         }
         let array_to_array = self.array_to_array.as_slice();
         let rest = &self.others;
@@ -239,7 +235,7 @@ impl<B: BytesToBytesCodecTraits> ArrayToBytesCodecTraits for CodecChain<B> {
             array_to_array,
             rest,
         };
-        decode_part_after(chain, alloc, source, part, options)
+        decode_part_after(chain, alloc, source, part)
     }
 
     fn takes_patches(&self, data_type: &DataType) -> bool {
@@ -251,26 +247,24 @@ impl<B: BytesToBytesCodecTraits> ArrayToBytesCodecTraits for CodecChain<B> {
         alloc: Global,
         bytes: ArrayBytes,
         part: ArrayPart<'_>,
-        options: &CodecOptions,
     ) -> Result<Option<ValuePatches>, CodecError> {
         if !self.array_to_array.is_empty() {
             return Ok(None);
         }
-        self.others.encode_patches(alloc, bytes, part, options)
+        self.others.encode_patches(alloc, bytes, part)
     }
 
-    fn partial_encode<E: BytesPartialEncoderTraits>(
+    fn partial_encode_in_order<E: BytesPartialEncoderTraits>(
         &self,
         alloc: Global,
         source: &mut E,
         bytes: ArrayBytes,
         part: ArrayPart<'_>,
-        options: &CodecOptions,
     ) -> Result<(), CodecError> {
         if self.array_to_array.is_empty() {
             return self
                 .others
-                .partial_encode(alloc, source, bytes, part, options);
+                .partial_encode_in_order(alloc, source, bytes, part);
         }
         let array_to_array = self.array_to_array.as_slice();
         let rest = &self.others;
@@ -278,16 +272,15 @@ impl<B: BytesToBytesCodecTraits> ArrayToBytesCodecTraits for CodecChain<B> {
             array_to_array,
             rest,
         };
-        encode_part_after(chain, alloc, source, bytes, part, options)
+        encode_part_after(chain, alloc, source, bytes, part)
     }
 
-    fn compact(
+    fn compact_in_order(
         &self,
         alloc: Global,
         _: &[u8],
         elements: &Elements,
         shape: &[u64],
-        _: &CodecOptions,
     ) -> Result<Option<Vec<u8>>, CodecError> {
         if !self.fits(alloc, elements.data_type(), shape)? {
             return Err(CodecError::Fit);

@@ -8,6 +8,7 @@ ghost use Rattle.zarr_codecs_meaning.specs.Payloads.{cells_in};
 ghost use Rattle.zarr_codecs_meaning.specs.Types as types;
 ghost use Rattle.zarr_codecs_types.specs.Views.{type_of};
 ghost use Rattle.zarr_codecs_arrays.specs.Views.{elements_of, payload_of};
+ghost use Rattle.zarr_codecs_traits.specs.Arrays.{coded_array};
 ghost use Rattle.zarr_codecs_traits.specs.Outcomes.{Decodes};
 ghost use Rattle.zarr_codecs_sections.specs.Laws.{found_read};
 ghost use Rattle.zarr_codecs_sections.specs.Marks.{IsMask, IsSpreadMask, count_ones};
@@ -26,7 +27,6 @@ use std::alloc::Global;
 use zarr_codecs_around::array_codecs::{shape_after, undo_all};
 use zarr_codecs_around::byte_codecs::decode_all;
 use zarr_codecs_arrays::{ArrayBytes, CodecError, Elements};
-use zarr_codecs_options::CodecOptions;
 use zarr_codecs_sections::{
     cut_elements, last_offset, marks_of, mask_elements, read_offsets, split_index, split_mask,
     spread_elements, spread_marks, zero_filled,
@@ -42,10 +42,8 @@ pub(crate) fn decode_chain<B: BytesToBytesCodecTraits>(
     alloc: Global,
     value: Vec<u8>,
     array: WholeArray<'_>,
-    options: &CodecOptions,
 ) -> Result<ArrayBytes, CodecError>
-    ensures { Decodes (meaning_of B.meaning chain.now) (elements_of array.entry.elements.now)
-        array.entry.shape.now value.items result }
+    ensures { Decodes (coded_array (meaning_of B.meaning chain.now) array.entry) value.items result }
 {
     let elements = array.elements;
     let codecs = chain.array_to_array.as_slice();
@@ -65,7 +63,7 @@ pub(crate) fn decode_chain<B: BytesToBytesCodecTraits>(
         elements,
         shape: last.as_slice(),
     };
-    match decode_codec(codec, alloc, inside, inner, options) {
+    match decode_codec(codec, alloc, inside, inner) {
         Ok(found) => undo_all(alloc, codecs, found, elements, array.shape),
         Err(error) => Err(error),
     }
@@ -78,20 +76,18 @@ pub(crate) fn decode_codec<B: BytesToBytesCodecTraits>(
     alloc: Global,
     value: Vec<u8>,
     array: WholeArray<'_>,
-    options: &CodecOptions,
 ) -> Result<ArrayBytes, CodecError>
-    ensures { Decodes (codec_chain B.meaning codec.now) (elements_of array.entry.elements.now)
-        array.entry.shape.now value.items result }
+    ensures { Decodes (coded_array (codec_chain B.meaning codec.now) array.entry) value.items result }
 {
     match codec {
         ArrayToBytesCodec::Bytes(codec) => {
-            codec.decode(alloc, value, array.elements, array.shape, options)
+            codec.decode_in_order(alloc, value, array.elements, array.shape)
         }
         ArrayToBytesCodec::PackBits(codec) => {
-            codec.decode(alloc, value, array.elements, array.shape, options)
+            codec.decode_in_order(alloc, value, array.elements, array.shape)
         }
-        ArrayToBytesCodec::Vlen(codec) => decode_vlen(codec, alloc, value, array, options),
-        ArrayToBytesCodec::Optional(codec) => decode_optional(codec, alloc, value, array, options),
+        ArrayToBytesCodec::Vlen(codec) => decode_vlen(codec, alloc, value, array),
+        ArrayToBytesCodec::Optional(codec) => decode_optional(codec, alloc, value, array),
     }
 }
 
@@ -102,10 +98,8 @@ fn decode_vlen<B: BytesToBytesCodecTraits>(
     alloc: Global,
     value: Vec<u8>,
     array: WholeArray<'_>,
-    options: &CodecOptions,
 ) -> Result<ArrayBytes, CodecError>
-    ensures { Decodes (vlen_chain B.meaning codec.now) (elements_of array.entry.elements.now)
-        array.entry.shape.now value.items result }
+    ensures { Decodes (coded_array (vlen_chain B.meaning codec.now) array.entry) value.items result }
 {
     if !fits_vlen(codec, alloc, array.elements.data_type(), array.shape)? {
         return Err(CodecError::Fit);
@@ -113,7 +107,7 @@ fn decode_vlen<B: BytesToBytesCodecTraits>(
     let Some(count) = count_places(array.shape) else {
         return Err(CodecError::Size);
     };
-    decode_sections(codec, alloc, value.as_slice(), count, options)
+    decode_sections(codec, alloc, value.as_slice(), count)
 }
 
 /// So many elements that `vlen` decodes a value to.
@@ -123,7 +117,6 @@ fn decode_sections<B: BytesToBytesCodecTraits>(
     alloc: Global,
     value: &[u8],
     count: u64,
-    options: &CodecOptions,
 ) -> Result<ArrayBytes, CodecError>
     requires { count < 2 ^ 63 }
     ensures { (elements : types.Elements) (shape : List ℕ) → product shape ≡ count
@@ -134,12 +127,12 @@ fn decode_sections<B: BytesToBytesCodecTraits>(
     let Some(sections) = split_index(value, codec.index_location) else {
         return Err(CodecError::Damage);
     };
-    let offsets = match decode_offsets(codec, alloc, sections.first, count, options) {
+    let offsets = match decode_offsets(codec, alloc, sections.first, count) {
         Ok(offsets) => offsets,
         Err(error) => return Err(error),
     };
     let long = last_offset(offsets.as_slice());
-    match decode_content(codec, alloc, sections.second, long, options) {
+    match decode_content(codec, alloc, sections.second, long) {
         Ok(content) => match cut_elements(offsets, content) {
             Some(found) => Ok(found),
             None => Err(CodecError::Damage),
@@ -155,7 +148,6 @@ fn decode_offsets<B: BytesToBytesCodecTraits>(
     alloc: Global,
     section: &[u8],
     count: u64,
-    options: &CodecOptions,
 ) -> Result<Vec<u64>, CodecError>
     requires { count < 2 ^ 63 }
     ensures { FindsOffsets (decoded (meaning_of B.meaning codec.now.index_codecs) (types.zero_filled
@@ -168,7 +160,7 @@ fn decode_offsets<B: BytesToBytesCodecTraits>(
         elements: &elements,
         shape: &shape,
     };
-    match decode_inner(&codec.index_codecs, alloc, section, array, options) {
+    match decode_inner(&codec.index_codecs, alloc, section, array) {
         Ok(found) => Ok(read_offsets(alloc, &found, codec.index_data_type)?),
         Err(error) => Err(error),
     }
@@ -182,7 +174,6 @@ fn decode_content<B: BytesToBytesCodecTraits>(
     alloc: Global,
     section: &[u8],
     count: u64,
-    options: &CodecOptions,
 ) -> Result<ArrayBytes, CodecError>
     ensures { FindsInner (read_unless_none count section.now (decoded
         (meaning_of B.meaning codec.now.data_codecs) (types.zero_filled types.uint8)
@@ -197,7 +188,7 @@ fn decode_content<B: BytesToBytesCodecTraits>(
         elements: &elements,
         shape: &shape,
     };
-    decode_inner(&codec.data_codecs, alloc, section, array, options)
+    decode_inner(&codec.data_codecs, alloc, section, array)
 }
 
 /// As many fill values as asked for, where there is nothing to decode. `Damage` where a section
@@ -230,14 +221,13 @@ fn decode_inner<B: BytesToBytesCodecTraits>(
     alloc: Global,
     section: &[u8],
     array: WholeArray<'_>,
-    options: &CodecOptions,
 ) -> Result<ArrayBytes, CodecError>
     ensures { FindsInner (decoded (meaning_of B.meaning chain.now)
         (elements_of array.entry.elements.now) array.entry.shape.now section.now)
         (elements_of array.entry.elements.now).type result }
 {
     let value = section.to_vec(alloc)?;
-    match decode_chain(chain, alloc, value, array, options) {
+    match decode_chain(chain, alloc, value, array) {
         Ok(found) => Ok(found),
         Err(CodecError::Damage) => Err(CodecError::Damage),
         Err(_) => Err(CodecError::Memory),
@@ -251,10 +241,9 @@ fn decode_optional<B: BytesToBytesCodecTraits>(
     alloc: Global,
     value: Vec<u8>,
     array: WholeArray<'_>,
-    options: &CodecOptions,
 ) -> Result<ArrayBytes, CodecError>
-    ensures { Decodes (optional_chain B.meaning codec.now) (elements_of array.entry.elements.now)
-        array.entry.shape.now value.items result }
+    ensures { Decodes (coded_array (optional_chain B.meaning codec.now) array.entry) value.items
+        result }
 {
     let data_type = array.elements.data_type();
     if !fits_optional(codec, alloc, data_type, array.shape)? {
@@ -269,18 +258,12 @@ fn decode_optional<B: BytesToBytesCodecTraits>(
     let Some(sections) = split_mask(value.as_slice()) else {
         return Err(CodecError::Damage);
     };
-    let mask = match decode_mask(codec, alloc, sections.first, array.shape, options) {
+    let mask = match decode_mask(codec, alloc, sections.first, array.shape) {
         Ok(mask) => mask,
         Err(error) => return Err(error),
     };
     let marks = marks_of(alloc, &mask)?;
-    decode_below(
-        codec,
-        alloc,
-        sections.second,
-        Marked { marks, inner },
-        options,
-    )
+    decode_below(codec, alloc, sections.second, Marked { marks, inner })
 }
 
 /// The mask that the chain of the mask decodes a section to.
@@ -290,7 +273,6 @@ fn decode_mask<B: BytesToBytesCodecTraits>(
     alloc: Global,
     section: &[u8],
     shape: &[u64],
-    options: &CodecOptions,
 ) -> Result<ArrayBytes, CodecError>
     ensures { FindsInner (decoded (meaning_of B.meaning codec.now.mask_codecs)
         (types.zero_filled types.bool) shape.now section.now) types.bool result }
@@ -300,7 +282,7 @@ fn decode_mask<B: BytesToBytesCodecTraits>(
         elements: &elements,
         shape,
     };
-    decode_inner(&codec.mask_codecs, alloc, section, array, options)
+    decode_inner(&codec.mask_codecs, alloc, section, array)
 }
 
 /// The marks of all elements below a mask, 1 for each that is present, and their type.
@@ -317,7 +299,6 @@ fn decode_below<B: BytesToBytesCodecTraits>(
     alloc: Global,
     section: &[u8],
     marked: Marked<'_>,
-    options: &CodecOptions,
 ) -> Result<ArrayBytes, CodecError>
     ensures all { (masks : List types.Cell)
         → takes_each_shape (meaning_of B.meaning codec.now.data_codecs) ≡ true
@@ -337,7 +318,7 @@ fn decode_below<B: BytesToBytesCodecTraits>(
         (types.optional_of (type_of marked.entry.inner.now)) outer result }
 {
     let chosen = choose(marked.marks.as_slice(), marked.inner);
-    match decode_chosen(&codec.data_codecs, alloc, section, chosen, options) {
+    match decode_chosen(&codec.data_codecs, alloc, section, chosen) {
         Ok(below) => Ok(mask_elements(alloc, below, marked.marks)?),
         Err(error) => Err(error),
     }
@@ -351,7 +332,6 @@ fn decode_chosen<B: BytesToBytesCodecTraits>(
     alloc: Global,
     section: &[u8],
     chosen: Chosen<'_, '_>,
-    options: &CodecOptions,
 ) -> Result<ArrayBytes, CodecError>
     requires { AreCounted chosen }
     ensures { takes_each_shape (meaning_of B.meaning chain.now) ≡ true
@@ -366,10 +346,10 @@ fn decode_chosen<B: BytesToBytesCodecTraits>(
     let codec = &chain.others.array_to_bytes;
     let codecs = chain.others.bytes_to_bytes.as_slice();
     if codecs.is_empty() {
-        return decode_chosen_by(codec, alloc, section, chosen, options);
+        return decode_chosen_by(codec, alloc, section, chosen);
     }
     match decode_all(alloc, codecs, section.to_vec(alloc)?) {
-        Ok(inside) => decode_chosen_by(codec, alloc, inside.as_slice(), chosen, options),
+        Ok(inside) => decode_chosen_by(codec, alloc, inside.as_slice(), chosen),
         Err(error) => Err(error),
     }
 }
@@ -381,19 +361,16 @@ fn decode_chosen_by<B: BytesToBytesCodecTraits>(
     alloc: Global,
     section: &[u8],
     chosen: Chosen<'_, '_>,
-    options: &CodecOptions,
 ) -> Result<ArrayBytes, CodecError>
     requires { AreCounted chosen }
     ensures { takes_each_shape (codec_chain B.meaning codec.now) ≡ true
         → FindsChosen (codec_chain B.meaning codec.now) chosen.entry section.now result }
 {
     match codec {
-        ArrayToBytesCodec::Bytes(codec) => decode_alone(codec, alloc, section, chosen, options),
-        ArrayToBytesCodec::PackBits(codec) => decode_alone(codec, alloc, section, chosen, options),
-        ArrayToBytesCodec::Vlen(codec) => decode_texts(codec, alloc, section, chosen, options),
-        ArrayToBytesCodec::Optional(codec) => {
-            decode_options(codec, alloc, section, chosen, options)
-        }
+        ArrayToBytesCodec::Bytes(codec) => decode_alone(codec, alloc, section, chosen),
+        ArrayToBytesCodec::PackBits(codec) => decode_alone(codec, alloc, section, chosen),
+        ArrayToBytesCodec::Vlen(codec) => decode_texts(codec, alloc, section, chosen),
+        ArrayToBytesCodec::Optional(codec) => { decode_options(codec, alloc, section, chosen) }
     }
 }
 
@@ -403,7 +380,6 @@ fn decode_alone<C: ArrayToBytesCodecTraits>(
     alloc: Global,
     section: &[u8],
     chosen: Chosen<'_, '_>,
-    options: &CodecOptions,
 ) -> Result<ArrayBytes, CodecError>
     requires { AreCounted chosen }
     ensures { FindsChosen (C.meaning codec.now) chosen.entry section.now result }
@@ -411,7 +387,7 @@ fn decode_alone<C: ArrayToBytesCodecTraits>(
     let elements = zero_filled(alloc, chosen.data_type.try_clone(alloc)?)?;
     let shape = [chosen.count];
     let value = section.to_vec(alloc)?;
-    match codec.decode(alloc, value, &elements, &shape, options) {
+    match codec.decode_in_order(alloc, value, &elements, &shape) {
         Ok(found) => Ok(spread_elements(alloc, found, chosen.data_type, chosen.marks)?),
         Err(CodecError::Damage) => Err(CodecError::Damage),
         Err(_) => Err(CodecError::Memory),
@@ -425,7 +401,6 @@ fn decode_texts<B: BytesToBytesCodecTraits>(
     alloc: Global,
     section: &[u8],
     chosen: Chosen<'_, '_>,
-    options: &CodecOptions,
 ) -> Result<ArrayBytes, CodecError>
     requires { AreCounted chosen }
     ensures { FindsChosen (vlen_chain B.meaning codec.now) chosen.entry section.now result }
@@ -433,7 +408,7 @@ fn decode_texts<B: BytesToBytesCodecTraits>(
     if chosen.count >= 1 << 63 || !chosen.data_type.is_variable() {
         return Err(CodecError::Memory);
     }
-    match decode_sections(codec, alloc, section, chosen.count, options) {
+    match decode_sections(codec, alloc, section, chosen.count) {
         Ok(found) => Ok(spread_elements(alloc, found, chosen.data_type, chosen.marks)?),
         Err(error) => Err(error),
     }
@@ -446,7 +421,6 @@ fn decode_options<B: BytesToBytesCodecTraits>(
     alloc: Global,
     section: &[u8],
     chosen: Chosen<'_, '_>,
-    options: &CodecOptions,
 ) -> Result<ArrayBytes, CodecError>
     requires { AreCounted chosen }
     ensures { takes_each_shape (optional_chain B.meaning codec.now) ≡ true
@@ -458,16 +432,10 @@ fn decode_options<B: BytesToBytesCodecTraits>(
     let Some(sections) = split_mask(section) else {
         return Err(CodecError::Damage);
     };
-    let mask = match decode_mask(codec, alloc, sections.first, &[chosen.count], options) {
+    let mask = match decode_mask(codec, alloc, sections.first, &[chosen.count]) {
         Ok(mask) => mask,
         Err(error) => return Err(error),
     };
     let marks = spread_marks(alloc, &mask, chosen.marks)?;
-    decode_below(
-        codec,
-        alloc,
-        sections.second,
-        Marked { marks, inner },
-        options,
-    )
+    decode_below(codec, alloc, sections.second, Marked { marks, inner })
 }

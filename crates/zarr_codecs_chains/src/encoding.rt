@@ -9,6 +9,7 @@ ghost use Rattle.zarr_codecs_meaning.specs.Types.{is_value, IsTooLarge};
 ghost use Rattle.zarr_codecs_types.specs.Views.{type_of};
 ghost use Rattle.zarr_codecs_arrays.specs.Outcomes.{IsValid};
 ghost use Rattle.zarr_codecs_arrays.specs.Views.{payload_of, elements_of};
+ghost use Rattle.zarr_codecs_traits.specs.Arrays.{coded, coded_array};
 ghost use Rattle.zarr_codecs_traits.specs.Outcomes.{Encodes};
 ghost use Rattle.zarr_codecs_sections.specs.Outcomes.{IsContent, IsSplit};
 ghost use Rattle.zarr_codecs_sections.specs.Views.{width_of};
@@ -26,7 +27,6 @@ use std::alloc::Global;
 use zarr_codecs_around::array_codecs::{move_all, shape_after};
 use zarr_codecs_around::byte_codecs::{encode_all, encode_made};
 use zarr_codecs_arrays::{ArrayBytes, CodecError, Elements};
-use zarr_codecs_options::CodecOptions;
 use zarr_codecs_sections::{
     SplitOptions, choose_elements, join_index, join_mask, joined_bytes, offset_elements,
     split_chosen, split_options, zero_filled,
@@ -42,10 +42,9 @@ pub(crate) fn encode_chain<B: BytesToBytesCodecTraits>(
     alloc: Global,
     bytes: ArrayBytes,
     array: WholeArray<'_>,
-    options: &CodecOptions,
 ) -> Result<Vec<u8>, CodecError>
-    ensures { Encodes (meaning_of B.meaning chain.now) true (elements_of array.entry.elements.now)
-        array.entry.shape.now (payload_of bytes) result }
+    ensures { Encodes (coded_array (meaning_of B.meaning chain.now) array.entry) true
+        (payload_of bytes) result }
 {
     let elements = array.elements;
     let codecs = chain.array_to_array.as_slice();
@@ -65,7 +64,7 @@ pub(crate) fn encode_chain<B: BytesToBytesCodecTraits>(
         elements,
         shape: last.as_slice(),
     };
-    let made = encode_codec(codec, alloc, moved, inner, options);
+    let made = encode_codec(codec, alloc, moved, inner);
     encode_made(alloc, chain.others.bytes_to_bytes.as_slice(), made)
 }
 
@@ -76,20 +75,19 @@ pub(crate) fn encode_codec<B: BytesToBytesCodecTraits>(
     alloc: Global,
     bytes: ArrayBytes,
     array: WholeArray<'_>,
-    options: &CodecOptions,
 ) -> Result<Vec<u8>, CodecError>
-    ensures { Encodes (codec_chain B.meaning codec.now) true (elements_of array.entry.elements.now)
-        array.entry.shape.now (payload_of bytes) result }
+    ensures { Encodes (coded_array (codec_chain B.meaning codec.now) array.entry) true
+        (payload_of bytes) result }
 {
     match codec {
         ArrayToBytesCodec::Bytes(codec) => {
-            codec.encode(alloc, bytes, array.elements, array.shape, options)
+            codec.encode_in_order(alloc, bytes, array.elements, array.shape)
         }
         ArrayToBytesCodec::PackBits(codec) => {
-            codec.encode(alloc, bytes, array.elements, array.shape, options)
+            codec.encode_in_order(alloc, bytes, array.elements, array.shape)
         }
-        ArrayToBytesCodec::Vlen(codec) => encode_vlen(codec, alloc, bytes, array, options),
-        ArrayToBytesCodec::Optional(codec) => encode_optional(codec, alloc, bytes, array, options),
+        ArrayToBytesCodec::Vlen(codec) => encode_vlen(codec, alloc, bytes, array),
+        ArrayToBytesCodec::Optional(codec) => encode_optional(codec, alloc, bytes, array),
     }
 }
 
@@ -100,10 +98,9 @@ fn encode_vlen<B: BytesToBytesCodecTraits>(
     alloc: Global,
     bytes: ArrayBytes,
     array: WholeArray<'_>,
-    options: &CodecOptions,
 ) -> Result<Vec<u8>, CodecError>
-    ensures { Encodes (vlen_chain B.meaning codec.now) true (elements_of array.entry.elements.now)
-        array.entry.shape.now (payload_of bytes) result }
+    ensures { Encodes (coded_array (vlen_chain B.meaning codec.now) array.entry) true
+        (payload_of bytes) result }
 {
     let data_type = array.elements.data_type();
     if !fits_vlen(codec, alloc, data_type, array.shape)? {
@@ -115,7 +112,7 @@ fn encode_vlen<B: BytesToBytesCodecTraits>(
     if let Err(error) = bytes.validate(data_type, count) {
         return Err(error);
     }
-    encode_sections(codec, alloc, bytes, count, options)
+    encode_sections(codec, alloc, bytes, count)
 }
 
 /// What `vlen` makes of so many elements that it suits.
@@ -125,14 +122,13 @@ fn encode_sections<B: BytesToBytesCodecTraits>(
     alloc: Global,
     bytes: ArrayBytes,
     count: u64,
-    options: &CodecOptions,
 ) -> Result<Vec<u8>, CodecError>
     requires { count < 2 ^ 63 }
-    ensures { (elements : types.Elements) (shape : List ℕ) (cells : List types.Cell)
-        → product shape ≡ count → is_value elements.type elements.fill ≡ true
-        → fits (vlen_chain B.meaning codec.now) elements.type shape ≡ true
-        → IsValid elements.type (payload_of bytes) count cells
-        → Encodes (vlen_chain B.meaning codec.now) true elements shape (payload_of bytes) result }
+    ensures { (elements : types.Elements) (shape : List ℕ) (cells : List types.Cell) → product shape
+        ≡ count → is_value elements.type elements.fill ≡ true → fits
+        (vlen_chain B.meaning codec.now) elements.type shape ≡ true → IsValid elements.type
+        (payload_of bytes) count cells → Encodes (coded (vlen_chain B.meaning codec.now) elements
+        shape) true (payload_of bytes) result }
 {
     let offsets = match offset_elements(alloc, &bytes, codec.index_data_type) {
         Ok(offsets) => offsets,
@@ -140,11 +136,11 @@ fn encode_sections<B: BytesToBytesCodecTraits>(
         Err(_) => return Err(CodecError::Memory),
     };
     let content = joined_bytes(alloc, bytes)?;
-    let front = match encode_offsets(codec, alloc, offsets, count, options) {
+    let front = match encode_offsets(codec, alloc, offsets, count) {
         Ok(front) => front,
         Err(error) => return Err(error),
     };
-    match encode_content(codec, alloc, content, options) {
+    match encode_content(codec, alloc, content) {
         Ok(back) => Ok(join_index(
             alloc,
             codec.index_location,
@@ -162,7 +158,6 @@ fn encode_offsets<B: BytesToBytesCodecTraits>(
     alloc: Global,
     offsets: ArrayBytes,
     count: u64,
-    options: &CodecOptions,
 ) -> Result<Vec<u8>, CodecError>
     requires { count < 2 ^ 63 }
     ensures { (cells : List types.Cell) → IsValid (types.integer types.unsigned
@@ -177,7 +172,7 @@ fn encode_offsets<B: BytesToBytesCodecTraits>(
         elements: &elements,
         shape: &shape,
     };
-    encode_inner(&codec.index_codecs, alloc, offsets, array, options)
+    encode_inner(&codec.index_codecs, alloc, offsets, array)
 }
 
 /// What the chain of the data makes of the elements' joined bytes; nothing where there are none.
@@ -186,7 +181,6 @@ fn encode_content<B: BytesToBytesCodecTraits>(
     codec: &VlenCodec<B>,
     alloc: Global,
     content: Vec<u8>,
-    options: &CodecOptions,
 ) -> Result<Vec<u8>, CodecError>
     ensures { (cells : List types.Cell) → IsContent cells content.items
         → MakesContent (meaning_of B.meaning codec.now.data_codecs) cells result }
@@ -201,7 +195,7 @@ fn encode_content<B: BytesToBytesCodecTraits>(
         shape: &shape,
     };
     let bytes = ArrayBytes::Fixed(content);
-    encode_inner(&codec.data_codecs, alloc, bytes, array, options)
+    encode_inner(&codec.data_codecs, alloc, bytes, array)
 }
 
 /// What a chain makes of the elements of an inner array.
@@ -211,7 +205,6 @@ fn encode_inner<B: BytesToBytesCodecTraits>(
     alloc: Global,
     bytes: ArrayBytes,
     array: WholeArray<'_>,
-    options: &CodecOptions,
 ) -> Result<Vec<u8>, CodecError>
     ensures { (cells : List types.Cell) → IsValid (elements_of array.entry.elements.now).type
         (payload_of bytes) (product array.entry.shape.now) cells
@@ -221,16 +214,15 @@ fn encode_inner<B: BytesToBytesCodecTraits>(
     if !is_small(array.elements.data_type(), array.shape) {
         return Err(CodecError::Memory);
     }
-    made_inside(encode_chain(chain, alloc, bytes, array, options))
+    made_inside(encode_chain(chain, alloc, bytes, array))
 }
 
 /// What is made of an inner array, whose elements are valid and few.
 fn made_inside(made: Result<Vec<u8>, CodecError>) -> Result<Vec<u8>, CodecError>
     ensures { (chain : Chain) (elements : types.Elements) (shape : List ℕ) (payload : Payload)
-        (cells : List types.Cell) → (IsTooLarge elements.type (product shape) → ⊥)
-        → IsValid elements.type payload (product shape) cells
-        → Encodes chain true elements shape payload made
-        → MakesInner chain elements shape cells result }
+        (cells : List types.Cell) → (IsTooLarge elements.type (product shape) → ⊥) → IsValid
+        elements.type payload (product shape) cells → Encodes (coded chain elements shape) true
+        payload made → MakesInner chain elements shape cells result }
 {
     match made {
         Ok(value) => Ok(value),
@@ -264,10 +256,9 @@ fn encode_optional<B: BytesToBytesCodecTraits>(
     alloc: Global,
     bytes: ArrayBytes,
     array: WholeArray<'_>,
-    options: &CodecOptions,
 ) -> Result<Vec<u8>, CodecError>
-    ensures { Encodes (optional_chain B.meaning codec.now) true
-        (elements_of array.entry.elements.now) array.entry.shape.now (payload_of bytes) result }
+    ensures { Encodes (coded_array (optional_chain B.meaning codec.now) array.entry) true
+        (payload_of bytes) result }
 {
     let data_type = array.elements.data_type();
     if !fits_optional(codec, alloc, data_type, array.shape)? {
@@ -284,7 +275,7 @@ fn encode_optional<B: BytesToBytesCodecTraits>(
     };
     let parts = split_options(alloc, bytes)?;
     let shape = array.shape;
-    encode_parts(codec, alloc, parts, Masked { inner, shape }, options)
+    encode_parts(codec, alloc, parts, Masked { inner, shape })
 }
 
 /// The inner type of optional elements, and the shape of their mask.
@@ -301,7 +292,6 @@ fn encode_parts<B: BytesToBytesCodecTraits>(
     alloc: Global,
     parts: SplitOptions,
     masked: Masked<'_, '_>,
-    options: &CodecOptions,
 ) -> Result<Vec<u8>, CodecError>
     ensures { (elements : types.Elements) (cells : List types.Cell)
         → types.inner_type elements.type ≡ Some (type_of masked.entry.inner.now)
@@ -315,12 +305,12 @@ fn encode_parts<B: BytesToBytesCodecTraits>(
 {
     let SplitOptions { mask, marks, below } = parts;
     let mask = ArrayBytes::Fixed(mask);
-    let front = match encode_mask(codec, alloc, mask, masked.shape, options) {
+    let front = match encode_mask(codec, alloc, mask, masked.shape) {
         Ok(front) => front,
         Err(error) => return Err(error),
     };
     let chosen = choose(marks.as_slice(), masked.inner);
-    match encode_chosen(&codec.data_codecs, alloc, below, chosen, options) {
+    match encode_chosen(&codec.data_codecs, alloc, below, chosen) {
         Ok(back) => Ok(join_mask(alloc, front.as_slice(), back.as_slice())?),
         Err(error) => Err(error),
     }
@@ -333,7 +323,6 @@ fn encode_mask<B: BytesToBytesCodecTraits>(
     alloc: Global,
     mask: ArrayBytes,
     shape: &[u64],
-    options: &CodecOptions,
 ) -> Result<Vec<u8>, CodecError>
     ensures { (cells : List types.Cell)
         → IsValid types.bool (payload_of mask) (product shape.now) cells
@@ -345,7 +334,7 @@ fn encode_mask<B: BytesToBytesCodecTraits>(
         elements: &elements,
         shape,
     };
-    encode_inner(&codec.mask_codecs, alloc, mask, array, options)
+    encode_inner(&codec.mask_codecs, alloc, mask, array)
 }
 
 /// What a chain that does the same for each shape makes of the elements that are encoded; nothing
@@ -356,7 +345,6 @@ fn encode_chosen<B: BytesToBytesCodecTraits>(
     alloc: Global,
     bytes: ArrayBytes,
     chosen: Chosen<'_, '_>,
-    options: &CodecOptions,
 ) -> Result<Vec<u8>, CodecError>
     requires { AreCounted chosen }
     ensures { (cells : List types.Cell)
@@ -368,7 +356,7 @@ fn encode_chosen<B: BytesToBytesCodecTraits>(
         return Ok(Vec::new(alloc));
     }
     let codec = &chain.others.array_to_bytes;
-    match encode_chosen_by(codec, alloc, bytes, chosen, options) {
+    match encode_chosen_by(codec, alloc, bytes, chosen) {
         Ok(made) => encode_all(alloc, chain.others.bytes_to_bytes.as_slice(), made),
         Err(error) => Err(error),
     }
@@ -381,7 +369,6 @@ fn encode_chosen_by<B: BytesToBytesCodecTraits>(
     alloc: Global,
     bytes: ArrayBytes,
     chosen: Chosen<'_, '_>,
-    options: &CodecOptions,
 ) -> Result<Vec<u8>, CodecError>
     requires { AreCounted chosen }
     ensures { (cells : List types.Cell)
@@ -390,10 +377,10 @@ fn encode_chosen_by<B: BytesToBytesCodecTraits>(
         → MakesChosen (codec_chain B.meaning codec.now) chosen.entry cells result }
 {
     match codec {
-        ArrayToBytesCodec::Bytes(codec) => encode_alone(codec, alloc, bytes, chosen, options),
-        ArrayToBytesCodec::PackBits(codec) => encode_alone(codec, alloc, bytes, chosen, options),
-        ArrayToBytesCodec::Vlen(codec) => encode_texts(codec, alloc, bytes, chosen, options),
-        ArrayToBytesCodec::Optional(codec) => { encode_below(codec, alloc, bytes, chosen, options) }
+        ArrayToBytesCodec::Bytes(codec) => encode_alone(codec, alloc, bytes, chosen),
+        ArrayToBytesCodec::PackBits(codec) => encode_alone(codec, alloc, bytes, chosen),
+        ArrayToBytesCodec::Vlen(codec) => encode_texts(codec, alloc, bytes, chosen),
+        ArrayToBytesCodec::Optional(codec) => { encode_below(codec, alloc, bytes, chosen) }
     }
 }
 
@@ -403,7 +390,6 @@ fn encode_alone<C: ArrayToBytesCodecTraits>(
     alloc: Global,
     bytes: ArrayBytes,
     chosen: Chosen<'_, '_>,
-    options: &CodecOptions,
 ) -> Result<Vec<u8>, CodecError>
     requires { AreCounted chosen }
     ensures { (cells : List types.Cell) → C.is_function codec.now ≡ true
@@ -417,7 +403,7 @@ fn encode_alone<C: ArrayToBytesCodecTraits>(
     if !is_small(data_type, &shape) {
         return Err(CodecError::Memory);
     }
-    made_inside(codec.encode(alloc, present, &elements, &shape, options))
+    made_inside(codec.encode_in_order(alloc, present, &elements, &shape))
 }
 
 /// What `vlen` makes of them.
@@ -427,7 +413,6 @@ fn encode_texts<B: BytesToBytesCodecTraits>(
     alloc: Global,
     bytes: ArrayBytes,
     chosen: Chosen<'_, '_>,
-    options: &CodecOptions,
 ) -> Result<Vec<u8>, CodecError>
     requires { AreCounted chosen }
     ensures { (cells : List types.Cell)
@@ -439,7 +424,7 @@ fn encode_texts<B: BytesToBytesCodecTraits>(
         return Err(CodecError::Memory);
     }
     let present = choose_elements(alloc, bytes, chosen.data_type, chosen.marks)?;
-    made_inside(encode_sections(codec, alloc, present, chosen.count, options))
+    made_inside(encode_sections(codec, alloc, present, chosen.count))
 }
 
 /// What `optional` makes of them.
@@ -449,7 +434,6 @@ fn encode_below<B: BytesToBytesCodecTraits>(
     alloc: Global,
     bytes: ArrayBytes,
     chosen: Chosen<'_, '_>,
-    options: &CodecOptions,
 ) -> Result<Vec<u8>, CodecError>
     requires { AreCounted chosen }
     ensures { (cells : List types.Cell)
@@ -466,5 +450,5 @@ fn encode_below<B: BytesToBytesCodecTraits>(
         inner,
         shape: &shape,
     };
-    encode_parts(codec, alloc, parts, masked, options)
+    encode_parts(codec, alloc, parts, masked)
 }

@@ -5,6 +5,7 @@ ghost use Rattle.zarr_codecs_meaning.specs.Chains.{Chain};
 ghost use Rattle.zarr_codecs_meaning.specs.Fits.{fits};
 ghost use Rattle.zarr_codecs_arrays.specs.Views.{elements_of};
 ghost use Rattle.zarr_codecs_traits.specs.Indexers.{are_inside, asked_of};
+ghost use Rattle.zarr_codecs_traits.specs.Arrays.{coded_part};
 ghost use Rattle.zarr_codecs_traits.specs.Outcomes.{DecodesPart};
 ghost use Rattle.zarr_codecs_traits.specs.ReadBytes.{most_read};
 ghost use Rattle.zarr_codecs_traits.specs.Sources.{refused_after};
@@ -16,7 +17,6 @@ use crate::decoding::decode_codec;
 use crate::fitting::fits_codec;
 use std::alloc::Global;
 use zarr_codecs_arrays::{ArrayBytes, CodecError};
-use zarr_codecs_options::CodecOptions;
 use zarr_codecs_regions::{count_asked, take_asked, test_asked};
 use zarr_codecs_traits::{
     ArrayPart, BytesPartialDecoderTraits, BytesToBytesCodecTraits, WholeArray, read_value,
@@ -30,11 +30,10 @@ pub(crate) fn decode_asked<B: BytesToBytesCodecTraits, D: BytesPartialDecoderTra
     alloc: Global,
     source: &mut D,
     part: ArrayPart<'_>,
-    options: &CodecOptions,
 ) -> Result<ArrayBytes, CodecError>
     requires { reads_whole (codec_chain B.meaning codec.now) ≡ true }
-    ensures part { IsTrue (D.is_honest source.old) → DecodesPart (codec_chain B.meaning codec.now)
-        (elements_of part.entry.elements.now) part.entry.shape.now (D.contents source.old)
+    ensures part { IsTrue (D.is_honest source.old) → DecodesPart
+        (coded_part (codec_chain B.meaning codec.now) part.entry) (D.contents source.old)
         (asked_of part.entry.indexer) result }
     ensures refused { D.refused_calls source.new ≡
         refused_after (D.refused_calls source.old) result }
@@ -53,7 +52,7 @@ pub(crate) fn decode_asked<B: BytesToBytesCodecTraits, D: BytesPartialDecoderTra
     if let Err(error) = test_asked(part.shape, part.indexer) {
         return Err(error);
     }
-    read_asked(codec, alloc, source, part, options)
+    read_asked(codec, alloc, source, part)
 }
 
 /// The elements at places of the array. Errors as those of `decode_codec`, and `Source` where the
@@ -64,15 +63,14 @@ fn read_asked<B: BytesToBytesCodecTraits, D: BytesPartialDecoderTraits>(
     alloc: Global,
     source: &mut D,
     part: ArrayPart<'_>,
-    options: &CodecOptions,
 ) -> Result<ArrayBytes, CodecError>
     requires whole { reads_whole (codec_chain B.meaning codec.now) ≡ true }
     requires inside { are_inside part.shape.now (asked_of part.indexer) ≡ true }
     requires small { product part.shape.now < 2 ^ 63 }
     requires fit { fits (codec_chain B.meaning codec.now)
         (elements_of part.elements.now).type part.shape.now ≡ true }
-    ensures part { IsTrue (D.is_honest source.old) → DecodesPart (codec_chain B.meaning codec.now)
-        (elements_of part.entry.elements.now) part.entry.shape.now (D.contents source.old)
+    ensures part { IsTrue (D.is_honest source.old) → DecodesPart
+        (coded_part (codec_chain B.meaning codec.now) part.entry) (D.contents source.old)
         (asked_of part.entry.indexer) result }
     ensures refused { D.refused_calls source.new ≡
         refused_after (D.refused_calls source.old) result }
@@ -83,7 +81,7 @@ fn read_asked<B: BytesToBytesCodecTraits, D: BytesPartialDecoderTraits>(
     ensures follows { D.follows source.old source.new }
 {
     match read_value(alloc, source) {
-        Ok(Some(value)) => decode_part(codec, alloc, value, part, options),
+        Ok(Some(value)) => decode_part(codec, alloc, value, part),
         Ok(None) => fill_asked(alloc, part),
         Err(error) => Err(error),
     }
@@ -96,14 +94,12 @@ fn decode_part<B: BytesToBytesCodecTraits>(
     alloc: Global,
     value: Vec<u8>,
     part: ArrayPart<'_>,
-    options: &CodecOptions,
 ) -> Result<ArrayBytes, CodecError>
     requires whole { reads_whole (codec_chain B.meaning codec.now) ≡ true }
     requires inside { are_inside part.shape.now (asked_of part.indexer) ≡ true }
     requires small { product part.shape.now < 2 ^ 63 }
-    ensures part { DecodesPart (codec_chain B.meaning codec.now)
-        (elements_of part.entry.elements.now) part.entry.shape.now (Some value.items)
-        (asked_of part.entry.indexer) result }
+    ensures part { DecodesPart (coded_part (codec_chain B.meaning codec.now) part.entry)
+        (Some value.items) (asked_of part.entry.indexer) result }
     ensures no_source { (count : ℕ) → refused_after count result ≡ count }
 {
     let array = WholeArray {
@@ -111,7 +107,7 @@ fn decode_part<B: BytesToBytesCodecTraits>(
         shape: part.shape,
     };
     let data_type = part.elements.data_type();
-    match decode_codec(codec, alloc, value, array, options) {
+    match decode_codec(codec, alloc, value, array) {
         Ok(bytes) => Ok(take_asked(alloc, &bytes, part.shape, part.indexer, data_type)?),
         Err(error) => Err(error),
     }
@@ -121,9 +117,8 @@ fn decode_part<B: BytesToBytesCodecTraits>(
 /// 2^63 places or more; values that would have 2^63 bytes or more are answered `Memory`.
 fn fill_asked(alloc: Global, part: ArrayPart<'_>) -> Result<ArrayBytes, CodecError>
     requires inside { are_inside part.shape.now (asked_of part.indexer) ≡ true }
-    ensures part { (chain : Chain)
-        → fits chain (elements_of part.entry.elements.now).type part.entry.shape.now ≡ true
-        → DecodesPart chain (elements_of part.entry.elements.now) part.entry.shape.now None
+    ensures part { (chain : Chain) → fits chain (elements_of part.entry.elements.now).type
+        part.entry.shape.now ≡ true → DecodesPart (coded_part chain part.entry) None
         (asked_of part.entry.indexer) result }
     ensures no_source { (count : ℕ) → refused_after count result ≡ count }
 {

@@ -3,7 +3,6 @@ use crate::array_to_bytes::ArrayToBytesCodec;
 use crate::bytes_chain::BytesChain;
 use std::alloc::{AllocError, Global};
 use zarr_codecs_arrays::{ArrayBytes, CodecError, Elements};
-use zarr_codecs_options::CodecOptions;
 use zarr_codecs_regions::WholeValues;
 use zarr_codecs_traits::{ArrayToBytesCodecTraits, BytesToBytesCodecTraits};
 use zarr_codecs_types::DataType;
@@ -31,9 +30,8 @@ impl<B: BytesToBytesCodecTraits> WholeValues for ArrayToBytesCodec<B> {
         bytes: ArrayBytes,
         elements: &Elements,
         shape: &[u64],
-        options: &CodecOptions,
     ) -> Result<Vec<u8>, CodecError> {
-        self.encode(alloc, bytes, elements, shape, options)
+        self.encode_in_order(alloc, bytes, elements, shape)
     }
 
     fn decode_value(
@@ -42,9 +40,8 @@ impl<B: BytesToBytesCodecTraits> WholeValues for ArrayToBytesCodec<B> {
         value: Vec<u8>,
         elements: &Elements,
         shape: &[u64],
-        options: &CodecOptions,
     ) -> Result<ArrayBytes, CodecError> {
-        self.decode(alloc, value, elements, shape, options)
+        self.decode_in_order(alloc, value, elements, shape)
     }
 
     fn keeps_fill(&self) -> bool {
@@ -77,9 +74,8 @@ impl<B: BytesToBytesCodecTraits> WholeValues for BytesChain<B> {
         bytes: ArrayBytes,
         elements: &Elements,
         shape: &[u64],
-        options: &CodecOptions,
     ) -> Result<Vec<u8>, CodecError> {
-        self.encode(alloc, bytes, elements, shape, options)
+        self.encode_in_order(alloc, bytes, elements, shape)
     }
 
     fn decode_value(
@@ -88,9 +84,8 @@ impl<B: BytesToBytesCodecTraits> WholeValues for BytesChain<B> {
         value: Vec<u8>,
         elements: &Elements,
         shape: &[u64],
-        options: &CodecOptions,
     ) -> Result<ArrayBytes, CodecError> {
-        self.decode(alloc, value, elements, shape, options)
+        self.decode_in_order(alloc, value, elements, shape)
     }
 
     fn keeps_fill(&self) -> bool {

@@ -6,11 +6,13 @@ ghost use Rattle.zarr_codecs_traits.specs.Capabilities.{decodes_parts};
 ghost use Rattle.zarr_codecs_traits.specs.Indexers.{asked_of};
 ghost use Rattle.zarr_codecs_traits.specs.Outcomes.{DecodesPart, IsPart};
 ghost use Rattle.zarr_codecs_traits.specs.ReadBytes.{most_read};
-ghost use Rattle.zarr_codecs_traits.specs.Sources.{IsRefusedAfter, ReadRefused, refused_after};
+ghost use Rattle.zarr_codecs_traits.specs.Sources.{CountsRead, IsRefusedAfter, ReadRefused, refused_after};
 ghost use Rattle.zarr_codecs_coders.specs.Coders.{IsPartNotPut, IsPartPut};
-ghost use Rattle.zarr_codecs_coders.specs.Decoders.{array_of, codec_of, reference_of, source_of};
+ghost use Rattle.zarr_codecs_coders.specs.Decoders.{IsDecoder, array_of, coded_in, codec_of, reference_of, source_of};
 
 use std::alloc::Global;
+use std::marker::Sync;
+use std::thread::Threads;
 use zarr_codecs_arrays::{ArrayBytes, CodecError};
 use zarr_codecs_options::CodecOptions;
 use zarr_codecs_traits::{
@@ -60,10 +62,7 @@ impl<'a, C: ArrayToBytesCodecTraits, D: BytesPartialDecoderTraits> CodecPartialD
             refused_after (D.refused_calls (source_of self.old)) result }
         ensures given { D.given_bytes (source_of self.new) ≡ D.given_bytes (source_of self.old) }
         ensures follows { D.follows (source_of self.old) (source_of self.new) }
-        ensures same_reference { reference_of self.new ≡ reference_of self.old }
-        ensures codec { codec_of self.new ≡ codec_of self.old }
-        ensures elements { (array_of self.new).elements.now ≡ (array_of self.old).elements.now }
-        ensures shape { (array_of self.new).shape.now ≡ (array_of self.old).shape.now }
+        ensures same { IsDecoder self.old self.new }
     {
         self.source.exists()
     }
@@ -74,64 +73,26 @@ impl<'a, C: ArrayToBytesCodecTraits, D: BytesPartialDecoderTraits> CodecPartialD
     {
         self.source.size_held()
     }
+}
 
+impl<'a, C: ArrayToBytesCodecTraits + Sync, D: BytesPartialDecoderTraits> CodecPartialDecoder<
+    'a,
+    C,
+    D,
+> {
     /// The elements at the places that are asked for, in their order; errors as those of
     /// `ArrayToBytesCodecTraits::partial_decode`.
-    pub fn partial_decode(
+    pub fn partial_decode<R: Threads + Sync>(
         &mut self,
+        rt: &R,
         alloc: Global,
         indexer: Indexer<'_>,
         options: &CodecOptions,
     ) -> Result<ArrayBytes, CodecError>
         ensures part { IsTrue (D.is_honest (source_of self.old)) → DecodesPart
-            (C.meaning (codec_of self.old)) (elements_of (array_of self.old).elements.now)
-            (array_of self.old).shape.now (D.contents (source_of self.old)) (asked_of indexer.entry)
-            result }
-        ensures refused { D.refused_calls (source_of self.new) ≡
-            refused_after (D.refused_calls (source_of self.old)) result }
-        ensures given { is_plain (C.meaning (codec_of self.old)) ≡ true →
-            IsTrue (D.is_honest (source_of self.old)) → D.given_bytes (source_of self.new)
-            ≤ D.given_bytes (source_of self.old) + most_read (C.meaning (codec_of self.old))
-            (elements_of (array_of self.old).elements.now).type (array_of self.old).shape.now
-            (D.contents (source_of self.old)) (asked_of indexer.entry) }
-        ensures follows { D.follows (source_of self.old) (source_of self.new) }
-        ensures same_reference { reference_of self.new ≡ reference_of self.old }
-        ensures codec { codec_of self.new ≡ codec_of self.old }
-        ensures elements { (array_of self.new).elements.now ≡ (array_of self.old).elements.now }
-        ensures shape { (array_of self.new).shape.now ≡ (array_of self.old).shape.now }
-    {
-        let part = ArrayPart {
-            elements: self.array.elements,
-            shape: self.array.shape,
-            indexer,
-        };
-        self.codec
-            .partial_decode(alloc, &mut *self.source, part, options)
-    }
-
-    /// Decodes the elements at the places that are asked for, and puts them over those of a target.
-    /// A refusal leaves the target as it was. Errors as those of `partial_decode` and of the
-    /// target's `put`.
-    pub fn partial_decode_into<T: ArrayBytesDecodeIntoTarget>(
-        &mut self,
-        alloc: Global,
-        indexer: Indexer<'_>,
-        target: &mut T,
-        options: &CodecOptions,
-    ) -> Result<(), CodecError>
-        ensures ok { IsTrue (D.is_honest (source_of self.old)) → OnOk result (IsPartPut
-            (C.meaning (codec_of self.old)) (elements_of (array_of self.old).elements.now)
-            (array_of self.old).shape.now (D.contents (source_of self.old)) (asked_of indexer.entry)
-            (λ payload. T.puts target.old payload target.new)) }
-        ensures err { OnErr result (target.new ≡ target.old) }
-        ensures cause { IsTrue (D.is_honest (source_of self.old)) → IfErr result (IsPartNotPut
-            (C.meaning (codec_of self.old)) (elements_of (array_of self.old).elements.now)
-            (array_of self.old).shape.now (D.contents (source_of self.old)) (asked_of indexer.entry)
-            (T.misfits target.old)) }
-        ensures refused { IsRefusedAfter (λ payload. IsTrue (D.is_honest (source_of self.old)) →
-            IsPart (C.meaning (codec_of self.old)) (elements_of (array_of self.old).elements.now)
-            (array_of self.old).shape.now (D.contents (source_of self.old)) (asked_of indexer.entry)
-            payload) (T.misfits target.old) (D.refused_calls (source_of self.old)) result
+            (coded_in C.meaning self.old) (D.contents (source_of self.old))
+            (asked_of indexer.entry) result }
+        ensures refused { CountsRead (D.refused_calls (source_of self.old)) result
             (D.refused_calls (source_of self.new)) }
         ensures given { is_plain (C.meaning (codec_of self.old)) ≡ true →
             IsTrue (D.is_honest (source_of self.old)) → D.given_bytes (source_of self.new)
@@ -139,12 +100,48 @@ impl<'a, C: ArrayToBytesCodecTraits, D: BytesPartialDecoderTraits> CodecPartialD
             (elements_of (array_of self.old).elements.now).type (array_of self.old).shape.now
             (D.contents (source_of self.old)) (asked_of indexer.entry) }
         ensures follows { D.follows (source_of self.old) (source_of self.new) }
-        ensures same_reference { reference_of self.new ≡ reference_of self.old }
-        ensures codec { codec_of self.new ≡ codec_of self.old }
-        ensures elements { (array_of self.new).elements.now ≡ (array_of self.old).elements.now }
-        ensures shape { (array_of self.new).shape.now ≡ (array_of self.old).shape.now }
+        ensures same { IsDecoder self.old self.new }
     {
-        match self.partial_decode(alloc, indexer, options) {
+        let part = ArrayPart {
+            elements: self.array.elements,
+            shape: self.array.shape,
+            indexer,
+        };
+        self.codec
+            .partial_decode(rt, alloc, &mut *self.source, part, options)
+    }
+
+    /// Decodes the elements at the places that are asked for, and puts them over those of a target.
+    /// A refusal leaves the target as it was. Errors as those of `partial_decode` and of the
+    /// target's `put`.
+    pub fn partial_decode_into<R: Threads + Sync, T: ArrayBytesDecodeIntoTarget>(
+        &mut self,
+        rt: &R,
+        alloc: Global,
+        indexer: Indexer<'_>,
+        target: &mut T,
+        options: &CodecOptions,
+    ) -> Result<(), CodecError>
+        ensures ok { IsTrue (D.is_honest (source_of self.old)) → OnOk result (IsPartPut
+            (coded_in C.meaning self.old) (D.contents (source_of self.old))
+            (asked_of indexer.entry) (λ payload. T.puts target.old payload target.new)) }
+        ensures err { OnErr result (target.new ≡ target.old) }
+        ensures cause { IsTrue (D.is_honest (source_of self.old)) → IfErr result (IsPartNotPut
+            (coded_in C.meaning self.old) (D.contents (source_of self.old))
+            (asked_of indexer.entry) (T.misfits target.old)) }
+        ensures refused { IsRefusedAfter (λ payload. IsTrue (D.is_honest (source_of self.old)) →
+            IsPart (coded_in C.meaning self.old) (D.contents (source_of self.old))
+            (asked_of indexer.entry) payload) (T.misfits target.old)
+            (D.refused_calls (source_of self.old)) result (D.refused_calls (source_of self.new)) }
+        ensures given { is_plain (C.meaning (codec_of self.old)) ≡ true →
+            IsTrue (D.is_honest (source_of self.old)) → D.given_bytes (source_of self.new)
+            ≤ D.given_bytes (source_of self.old) + most_read (C.meaning (codec_of self.old))
+            (elements_of (array_of self.old).elements.now).type (array_of self.old).shape.now
+            (D.contents (source_of self.old)) (asked_of indexer.entry) }
+        ensures follows { D.follows (source_of self.old) (source_of self.new) }
+        ensures same { IsDecoder self.old self.new }
+    {
+        match self.partial_decode(rt, alloc, indexer, options) {
             Ok(elements) => target.put(alloc, &elements),
             Err(error) => Err(error),
         }

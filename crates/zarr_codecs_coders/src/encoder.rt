@@ -1,22 +1,23 @@
 //! Parts of an array encoded into a lent source.
-ghost use Rattle.std.specs.Prelude.{◌≡◌, ◌≤◌, ◌+◌, List, None, IfOk, IsTrue, OnErr, OnOk, is_some, true};
+ghost use Rattle.std.specs.Prelude.{◌≡◌, ◌≤◌, ◌+◌, None, IfOk, IsTrue, OnErr, OnOk, is_some, true};
 ghost use Rattle.zarr_codecs_meaning.specs.Fits.{is_plain};
 ghost use Rattle.zarr_codecs_meaning.specs.Partial.{encodes_in_part};
-ghost use Rattle.zarr_codecs_meaning.specs.Types.{Cell};
 ghost use Rattle.zarr_codecs_arrays.specs.Views.{elements_of, payload_of};
 ghost use Rattle.zarr_codecs_traits.specs.Indexers.{asked_of};
 ghost use Rattle.zarr_codecs_traits.specs.Outcomes.{DecodesPart};
-ghost use Rattle.zarr_codecs_traits.specs.PartWriting.{IsEncodedInto, IsPlaced, NotEncodedInto, WritesOnce};
+ghost use Rattle.zarr_codecs_traits.specs.PartWriting.{EncodesInto, IsPlaced, NotEncodedInto, WritesOnce};
 ghost use Rattle.zarr_codecs_traits.specs.ReadBytes.{most_read};
-ghost use Rattle.zarr_codecs_traits.specs.Sources.{ReadRefused, refused_after};
+ghost use Rattle.zarr_codecs_traits.specs.Sources.{CountsRead, ReadRefused, refused_after};
 ghost use Rattle.zarr_codecs_traits.specs.Writes.{WriteRefused, accepted_after};
-ghost use Rattle.zarr_codecs_coders.specs.Encoders.{array_of, codec_of, reference_of, source_of};
+ghost use Rattle.zarr_codecs_coders.specs.Encoders.{IsEncoder, array_of, coded_in, codec_of, reference_of, source_of, update_in};
 
 use std::alloc::Global;
+use std::marker::Sync;
+use std::thread::Threads;
 use zarr_codecs_arrays::{ArrayBytes, CodecError};
 use zarr_codecs_options::CodecOptions;
 use zarr_codecs_traits::{
-    ArrayPart, ArrayToBytesCodecTraits, BytesPartialEncoderTraits, Indexer, WholeArray,
+    ArrayPart, ArrayToBytesCodecTraits, BytesPartialEncoderTraits, GivenPart, Indexer, WholeArray,
 };
 
 /// What encodes parts of one array by a codec into the value that a lent source holds, and decodes
@@ -61,10 +62,7 @@ impl<'a, C: ArrayToBytesCodecTraits, E: BytesPartialEncoderTraits> CodecPartialE
             refused_after (E.refused_calls (source_of self.old)) result }
         ensures given { E.given_bytes (source_of self.new) ≡ E.given_bytes (source_of self.old) }
         ensures follows { E.follows (source_of self.old) (source_of self.new) }
-        ensures same_reference { reference_of self.new ≡ reference_of self.old }
-        ensures codec { codec_of self.new ≡ codec_of self.old }
-        ensures elements { (array_of self.new).elements.now ≡ (array_of self.old).elements.now }
-        ensures shape { (array_of self.new).shape.now ≡ (array_of self.old).shape.now }
+        ensures same { IsEncoder self.old self.new }
     {
         self.source.exists()
     }
@@ -74,83 +72,6 @@ impl<'a, C: ArrayToBytesCodecTraits, E: BytesPartialEncoderTraits> CodecPartialE
         ensures { result ≡ E.held_bytes (source_of self.now) }
     {
         self.source.size_held()
-    }
-
-    /// The elements at the places that are asked for, in their order; errors as those of
-    /// `ArrayToBytesCodecTraits::partial_decode`.
-    pub fn partial_decode(
-        &mut self,
-        alloc: Global,
-        indexer: Indexer<'_>,
-        options: &CodecOptions,
-    ) -> Result<ArrayBytes, CodecError>
-        ensures part { IsTrue (E.is_honest (source_of self.old)) → DecodesPart
-            (C.meaning (codec_of self.old)) (elements_of (array_of self.old).elements.now)
-            (array_of self.old).shape.now (E.contents (source_of self.old)) (asked_of indexer.entry)
-            result }
-        ensures refused { E.refused_calls (source_of self.new) ≡
-            refused_after (E.refused_calls (source_of self.old)) result }
-        ensures given { is_plain (C.meaning (codec_of self.old)) ≡ true →
-            IsTrue (E.is_honest (source_of self.old)) → E.given_bytes (source_of self.new)
-            ≤ E.given_bytes (source_of self.old) + most_read (C.meaning (codec_of self.old))
-            (elements_of (array_of self.old).elements.now).type (array_of self.old).shape.now
-            (E.contents (source_of self.old)) (asked_of indexer.entry) }
-        ensures follows { E.follows (source_of self.old) (source_of self.new) }
-        ensures same_reference { reference_of self.new ≡ reference_of self.old }
-        ensures codec { codec_of self.new ≡ codec_of self.old }
-        ensures elements { (array_of self.new).elements.now ≡ (array_of self.old).elements.now }
-        ensures shape { (array_of self.new).shape.now ≡ (array_of self.old).shape.now }
-    {
-        let part = ArrayPart {
-            elements: self.array.elements,
-            shape: self.array.shape,
-            indexer,
-        };
-        self.codec
-            .partial_decode(alloc, &mut *self.source, part, options)
-    }
-
-    /// Puts elements in the place of those at the places that are asked for, in their order, by at
-    /// most one writing call; a refusal leaves the source as it was. Errors as those of
-    /// `ArrayToBytesCodecTraits::partial_encode`.
-    pub fn partial_encode(
-        &mut self,
-        alloc: Global,
-        indexer: Indexer<'_>,
-        bytes: ArrayBytes,
-        options: &CodecOptions,
-    ) -> Result<(), CodecError>
-        ensures ok { IsTrue (E.is_honest (source_of self.old)) → OnOk result ((cells : List Cell)
-            × IsEncodedInto (C.meaning (codec_of self.old)) (C.is_function (codec_of self.old))
-            (elements_of (array_of self.old).elements.now) (array_of self.old).shape.now
-            (asked_of indexer.entry) (payload_of bytes) cells (E.contents (source_of self.old))
-            (E.contents (source_of self.new))) }
-        ensures placed { IsTrue (E.is_honest (source_of self.old)) → OnOk result
-            (IsPlaced (C.meaning (codec_of self.old)) (array_of self.old).shape.now
-            (E.contents (source_of self.old))) }
-        ensures err { IsTrue (E.is_honest (source_of self.old)) →
-            OnErr result (E.contents (source_of self.new) ≡ E.contents (source_of self.old)) }
-        ensures cause { IsTrue (E.is_honest (source_of self.old)) → NotEncodedInto
-            (C.meaning (codec_of self.old)) (elements_of (array_of self.old).elements.now)
-            (array_of self.old).shape.now (asked_of indexer.entry) (payload_of bytes)
-            (E.contents (source_of self.old)) result }
-        ensures refused { E.refused_calls (source_of self.new) ≡
-            refused_after (E.refused_calls (source_of self.old)) result }
-        ensures once { WritesOnce (E.accepted_writes (source_of self.old))
-            (E.accepted_writes (source_of self.new)) result }
-        ensures rewrites { E.rewrites (source_of self.old) (source_of self.new) }
-        ensures same_reference { reference_of self.new ≡ reference_of self.old }
-        ensures codec { codec_of self.new ≡ codec_of self.old }
-        ensures elements { (array_of self.new).elements.now ≡ (array_of self.old).elements.now }
-        ensures shape { (array_of self.new).shape.now ≡ (array_of self.old).shape.now }
-    {
-        let part = ArrayPart {
-            elements: self.array.elements,
-            shape: self.array.shape,
-            indexer,
-        };
-        self.codec
-            .partial_encode(alloc, &mut *self.source, bytes, part, options)
     }
 
     /// Takes the value away, so that each element is the fill value. That there is none is fine.
@@ -166,11 +87,85 @@ impl<'a, C: ArrayToBytesCodecTraits, E: BytesPartialEncoderTraits> CodecPartialE
         ensures accepted { E.accepted_writes (source_of self.new) ≡
             accepted_after (E.accepted_writes (source_of self.old)) result }
         ensures rewrites { E.rewrites (source_of self.old) (source_of self.new) }
-        ensures same_reference { reference_of self.new ≡ reference_of self.old }
-        ensures codec { codec_of self.new ≡ codec_of self.old }
-        ensures elements { (array_of self.new).elements.now ≡ (array_of self.old).elements.now }
-        ensures shape { (array_of self.new).shape.now ≡ (array_of self.old).shape.now }
+        ensures same { IsEncoder self.old self.new }
     {
         self.source.erase()
+    }
+}
+
+impl<'a, C: ArrayToBytesCodecTraits + Sync, E: BytesPartialEncoderTraits> CodecPartialEncoder<
+    'a,
+    C,
+    E,
+> {
+    /// The elements at the places that are asked for, in their order; errors as those of
+    /// `ArrayToBytesCodecTraits::partial_decode`.
+    pub fn partial_decode<R: Threads + Sync>(
+        &mut self,
+        rt: &R,
+        alloc: Global,
+        indexer: Indexer<'_>,
+        options: &CodecOptions,
+    ) -> Result<ArrayBytes, CodecError>
+        ensures part { IsTrue (E.is_honest (source_of self.old)) → DecodesPart
+            (coded_in C.meaning self.old) (E.contents (source_of self.old))
+            (asked_of indexer.entry) result }
+        ensures refused { CountsRead (E.refused_calls (source_of self.old)) result
+            (E.refused_calls (source_of self.new)) }
+        ensures given { is_plain (C.meaning (codec_of self.old)) ≡ true →
+            IsTrue (E.is_honest (source_of self.old)) → E.given_bytes (source_of self.new)
+            ≤ E.given_bytes (source_of self.old) + most_read (C.meaning (codec_of self.old))
+            (elements_of (array_of self.old).elements.now).type (array_of self.old).shape.now
+            (E.contents (source_of self.old)) (asked_of indexer.entry) }
+        ensures follows { E.follows (source_of self.old) (source_of self.new) }
+        ensures same { IsEncoder self.old self.new }
+    {
+        let part = ArrayPart {
+            elements: self.array.elements,
+            shape: self.array.shape,
+            indexer,
+        };
+        self.codec
+            .partial_decode(rt, alloc, &mut *self.source, part, options)
+    }
+
+    /// Puts elements in the place of those at the places that are asked for, in their order, by at
+    /// most one writing call; a refusal leaves the source as it was. Errors as those of
+    /// `ArrayToBytesCodecTraits::partial_encode`.
+    pub fn partial_encode<R: Threads + Sync>(
+        &mut self,
+        rt: &R,
+        alloc: Global,
+        indexer: Indexer<'_>,
+        bytes: ArrayBytes,
+        options: &CodecOptions,
+    ) -> Result<(), CodecError>
+        ensures ok { IsTrue (E.is_honest (source_of self.old)) → OnOk result (EncodesInto
+            (coded_in C.meaning self.old) (C.is_function (codec_of self.old))
+            (update_in E.contents self.old (asked_of indexer.entry) (payload_of bytes))
+            (E.contents (source_of self.new))) }
+        ensures placed { IsTrue (E.is_honest (source_of self.old)) → OnOk result
+            (IsPlaced (C.meaning (codec_of self.old)) (array_of self.old).shape.now
+            (E.contents (source_of self.old))) }
+        ensures err { IsTrue (E.is_honest (source_of self.old)) →
+            OnErr result (E.contents (source_of self.new) ≡ E.contents (source_of self.old)) }
+        ensures cause { IsTrue (E.is_honest (source_of self.old)) → NotEncodedInto
+            (coded_in C.meaning self.old)
+            (update_in E.contents self.old (asked_of indexer.entry) (payload_of bytes)) result }
+        ensures refused { E.refused_calls (source_of self.new) ≡
+            refused_after (E.refused_calls (source_of self.old)) result }
+        ensures once { WritesOnce (E.accepted_writes (source_of self.old))
+            (E.accepted_writes (source_of self.new)) result }
+        ensures rewrites { E.rewrites (source_of self.old) (source_of self.new) }
+        ensures same { IsEncoder self.old self.new }
+    {
+        let part = ArrayPart {
+            elements: self.array.elements,
+            shape: self.array.shape,
+            indexer,
+        };
+        let given = GivenPart { bytes, part };
+        self.codec
+            .partial_encode(rt, alloc, &mut *self.source, given, options)
     }
 }

@@ -12,6 +12,7 @@ use Rattle.zarr_codecs_meaning.proofs.Counts.{decoded_count}
 use Rattle.zarr_codecs_meaning.proofs.PartReading.{part_read}
 use Rattle.zarr_codecs_arrays.specs.Outcomes.{IsCounted}
 use Rattle.zarr_codecs_traits.specs.Indexers.{Asked, are_inside, numbers_asked}
+use Rattle.zarr_codecs_traits.specs.Arrays.{coded}
 use Rattle.zarr_codecs_traits.specs.Outcomes.{IsDecoded, IsPart}
 use Rattle.zarr_codecs_traits.specs.ReadBytes.{bytes_of_numbers, most_read}
 use Rattle.zarr_codecs_traits.specs.Sources.{value_length}
@@ -23,8 +24,8 @@ use Rattle.zarr_codecs_regions.proofs.AskedPlaces.{asked_places}
 
 -- ---- of a value
 
-pub takes_part : (chain : Chain) (elements : Elements) (shape value : List ℕ) (asked : Asked) (type : DataType) (payload made : Payload) → are_inside shape asked ≡ true → type ≡ elements.type → IsDecoded chain elements shape value payload
-    → ((cells : List Cell) → IsCounted type payload (product shape) cells → cells_in type made ≡ Some (gather elements.fill cells (numbers_asked shape asked))) → IsPart chain elements shape (Some value) asked made
+pub takes_part : (chain : Chain) (elements : Elements) (shape value : List ℕ) (asked : Asked) (type : DataType) (payload made : Payload) → are_inside shape asked ≡ true → type ≡ elements.type → IsDecoded (coded chain elements shape) value payload
+    → ((cells : List Cell) → IsCounted type payload (product shape) cells → cells_in type made ≡ Some (gather elements.fill cells (numbers_asked shape asked))) → IsPart (coded chain elements shape) (Some value) asked made
 takes_part chain elements shape value asked type payload made inside same d law = record {
   cells = gather elements.fill d.cells (numbers_asked shape asked);
   fit = d.fit;
@@ -37,7 +38,7 @@ takes_part chain elements shape value asked type payload made inside same d law 
 -- ---- where nothing is stored
 
 pub fills_asked : (chain : Chain) (elements : Elements) (shape : List ℕ) (asked : Asked) (count : ℕ) (payload : Payload) → are_inside shape asked ≡ true → count ≡ length (numbers_asked shape asked) → fits chain elements.type shape ≡ true
-    → cells_in elements.type payload ≡ Some (replicate count elements.fill) → IsPart chain elements shape None asked payload
+    → cells_in elements.type payload ≡ Some (replicate count elements.fill) → IsPart (coded chain elements shape) None asked payload
 fills_asked chain elements shape asked count payload inside many fit lists = record {
   cells = replicate count elements.fill;
   fit = fit;

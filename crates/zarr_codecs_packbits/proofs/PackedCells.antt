@@ -27,6 +27,7 @@ use Rattle.zarr_codecs_arrays.proofs.FixedCells.{fixed_in-some, fixed_in-whole, 
 use Rattle.zarr_codecs_types.specs.Parts.{word_sized}
 use Rattle.zarr_codecs_arrays.specs.declared.error.CodecError.{CodecError}
 use Rattle.zarr_codecs_arrays.specs.declared.error.CodecError.TheVariants as error
+use Rattle.zarr_codecs_traits.specs.Arrays.{coded}
 use Rattle.zarr_codecs_traits.specs.Outcomes.{Decodes, IsEncoded, IsDecoded}
 use Rattle.zarr_codecs_packbits.specs.Packing.{IsUncounted, kept_of, element_in, bytes_of}
 use Rattle.zarr_codecs_packbits.specs.Turning as turning
@@ -116,7 +117,7 @@ pub IsValid-at : {type other : DataType} {payload : Payload} {count places : ℕ
 IsValid-at {other = other} {payload = payload} {count = count} {cells = cells} t n valid = subst (λ k. IsValid other payload k cells) n (subst (λ y. IsValid y payload count cells) t valid)
 
 pub packbits_encodes : (padding : Padding) (first : ℕ) (last : Option ℕ) (elements : Elements) (shape given made : List ℕ) (cells : List Cell) → is_value elements.type elements.fill ≡ true → fits (packbits padding first last) elements.type shape ≡ true
-    → IsValid elements.type (fixed given) (product shape) cells → made ≡ with_padding padding (kept_of first last (components elements.type) given) → IsEncoded (packbits padding first last) true elements shape (fixed given) cells made
+    → IsValid elements.type (fixed given) (product shape) cells → made ≡ with_padding padding (kept_of first last (components elements.type) given) → IsEncoded (coded (packbits padding first last) elements shape) true (fixed given) cells made
 packbits_encodes padding first last elements shape given made cells fill fit valid is =
     let parts = components elements.type in
     let chain = packbits padding first last in
@@ -154,7 +155,7 @@ cells_from first last parts bits start (suc count) some =
 
 pub packbits_decodes : (padding : Padding) (first : ℕ) (last : Option ℕ) (elements : Elements) (shape value made : List ℕ) → fits (packbits padding first last) elements.type shape ≡ true → 0 < bytes_in (components elements.type)
     → length value ≡ packed_size padding first last (components elements.type) (product shape) → made ≡ bytes_of first last (components elements.type) (product shape) (bits_of (without_padding padding value))
-    → IsDecoded (packbits padding first last) elements shape value (fixed made)
+    → IsDecoded (coded (packbits padding first last) elements shape) value (fixed made)
 packbits_decodes padding first last elements shape value made fit some long is =
     let type = elements.type in
     let parts = components type in
@@ -202,7 +203,7 @@ too_short padding first last elements shape value fit some many short =
 
 -- why a value is not decoded to so many
 pub uncounted : (padding : Padding) (first : ℕ) (last : Option ℕ) (elements : Elements) (shape value : List ℕ) (e : CodecError) → fits (packbits padding first last) elements.type shape ≡ true → 0 < bytes_in (components elements.type) → (product shape < 2 ^ 63 → ⊥) → IsUncounted value e
-    → Decodes (packbits padding first last) elements shape value (Err e)
+    → Decodes (coded (packbits padding first last) elements shape) value (Err e)
 uncounted padding first last elements shape value error.Damage fit some many h = (fit, too_short padding first last elements shape value fit some many h)
 uncounted padding first last elements shape value error.Size fit some many h = elim (cases_lt (product shape) (2 ^ 63)) [ inl less ↦ absurd (many less) | inr more ↦ inl more ]
 uncounted padding first last elements shape value e fit some many h = absurd h

@@ -23,6 +23,7 @@ use Rattle.zarr_codecs_arrays.specs.declared.error.CodecError.{CodecError}
 use Rattle.zarr_codecs_arrays.specs.declared.error.CodecError.TheVariants as error
 use Rattle.zarr_codecs_regions.proofs.AskedPlaces.{asked_places}
 use Rattle.zarr_codecs_traits.specs.Indexers.{Asked, are_inside, numbers_asked}
+use Rattle.zarr_codecs_traits.specs.Arrays.{coded}
 use Rattle.zarr_codecs_traits.specs.Outcomes.{DecodesPart, IsPart}
 use Rattle.zarr_codecs_traits.specs.Sources.{RangesRefused, ReadRefused, any_past_end, bytes_at, bytes_in_ranges, concat_of, ends_past, value_length}
 use Rattle.zarr_codecs_traits.specs.declared.byte_range.ByteRange.{ByteRange}
@@ -49,7 +50,7 @@ gathered_cells f fill count (n ∷ ns) below =
 -- the bytes of the elements that are asked for are those of the part
 pub packed_part : (first : ℕ) (last : Option ℕ) (elements : Elements) (shape value made : List ℕ) (asked : Asked) → fits (packbits no_padding_byte first last) elements.type shape ≡ true → 0 < bytes_in (components elements.type) → are_inside shape asked ≡ true
     → length value ≡ packed_size no_padding_byte first last (components elements.type) (product shape) → made ≡ flat_map (element_in first last (components elements.type) (bits_of value)) (numbers_asked shape asked)
-    → IsPart (packbits no_padding_byte first last) elements shape (Some value) asked (fixed made)
+    → IsPart (coded (packbits no_padding_byte first last) elements shape) (Some value) asked (fixed made)
 packed_part first last elements shape value made asked fit some inside long is =
     let chain = packbits no_padding_byte first last in
     let type = elements.type in
@@ -141,14 +142,14 @@ ranges_refused contents value ranges (Err error.Source) is within refused = tt
 ranges_refused contents value ranges (Err error.Memory) is within refused = tt
 ranges_refused contents value ranges (Err e) is within refused = absurd refused
 
-part_unread : (chain : Chain) (elements : Elements) (shape : List ℕ) (stored : Option (List ℕ)) (asked : Asked) (e : CodecError) → ReadRefused {A = Option (Vec ℕ Global)} (Err e) → DecodesPart chain elements shape stored asked (Err e)
+part_unread : (chain : Chain) (elements : Elements) (shape : List ℕ) (stored : Option (List ℕ)) (asked : Asked) (e : CodecError) → ReadRefused {A = Option (Vec ℕ Global)} (Err e) → DecodesPart (coded chain elements shape) stored asked (Err e)
 part_unread chain elements shape stored asked error.Source refused = tt
 part_unread chain elements shape stored asked error.Memory refused = tt
 part_unread chain elements shape stored asked e refused = absurd refused
 
 -- ranges of spans that end within the value are refused only by the source, or for want of memory
 pub spans_unread : (chain : Chain) (elements : Elements) (shape : List ℕ) (stored : Option (List ℕ)) (asked : Asked) (contents : Option (List ℕ)) (value : List ℕ) (bits : ℕ) (spans : List Span) (ranges : List ByteRange) (e : CodecError) → contents ≡ Some value
-    → list_all (ends_within bits value) spans ≡ true → ranges ≡ span_ranges bits spans → RangesRefused {A = Option (Vec ℕ Global)} contents ranges (Err e) → DecodesPart chain elements shape stored asked (Err e)
+    → list_all (ends_within bits value) spans ≡ true → ranges ≡ span_ranges bits spans → RangesRefused {A = Option (Vec ℕ Global)} contents ranges (Err e) → DecodesPart (coded chain elements shape) stored asked (Err e)
 spans_unread chain elements shape stored asked contents value bits spans ranges e is within are refused =
     part_unread chain elements shape stored asked e (ranges_refused {A = Option (Vec ℕ Global)} contents value ranges (Err e) is (ap (list_any (ends_past value)) are ∙ ranges_within bits value spans within) refused)
 

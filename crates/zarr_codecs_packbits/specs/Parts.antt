@@ -10,6 +10,7 @@ use Rattle.zarr_codecs_arrays.specs.declared.array_bytes.ArrayBytes.{ArrayBytes}
 use Rattle.zarr_codecs_arrays.specs.declared.error.CodecError.{CodecError}
 use Rattle.zarr_codecs_arrays.specs.declared.error.CodecError.TheVariants as error
 use Rattle.zarr_codecs_traits.specs.Indexers.{asked_of, numbers_asked}
+use Rattle.zarr_codecs_traits.specs.Arrays.{coded}
 use Rattle.zarr_codecs_traits.specs.Outcomes.{DecodesPart}
 use Rattle.zarr_codecs_traits.specs.ReadBytes.{most_read}
 use Rattle.zarr_codecs_packbits.specs.Packing.{element_in}
@@ -22,7 +23,7 @@ use Rattle.zarr_codecs_packbits.specs.declared.spans.SpanRanges.{SpanRanges}
 
 -- the elements that are asked for, of what is stored, or why there are none
 abbrev pub GivesPacked : Option (List ℕ) → PackedPart → Result ArrayBytes CodecError → Type 0
-GivesPacked stored packed result = DecodesPart (packbits_chain packed.codec) (elements_of packed.part.elements.now) packed.part.shape.now stored (asked_of packed.part.indexer) result
+GivesPacked stored packed result = DecodesPart (coded (packbits_chain packed.codec) (elements_of packed.part.elements.now) packed.part.shape.now) stored (asked_of packed.part.indexer) result
 
 -- how many bytes are taken at most of what is stored, for the elements that are asked for
 abbrev pub most_of_packed : Option (List ℕ) → PackedPart → ℕ

@@ -7,7 +7,6 @@ use crate::sizes::{error_of_uncounted, fit_all, has_bytes, packed_size};
 use crate::turning::{Turn, Way};
 use std::alloc::{AllocError, Global};
 use zarr_codecs_arrays::{ArrayBytes, CodecError, Elements};
-use zarr_codecs_options::CodecOptions;
 use zarr_codecs_regions::{WholeValues, encode_whole, test_asked};
 use zarr_codecs_traits::{
     ArrayPart, ArrayToBytesCodecTraits, BytesPartialDecoderTraits, BytesPartialEncoderTraits,
@@ -168,13 +167,12 @@ impl ArrayToBytesCodecTraits for PackBitsCodec {
         Ok(self.suited(alloc, data_type)?.is_some())
     }
 
-    fn encode(
+    fn encode_in_order(
         &self,
         alloc: Global,
         bytes: ArrayBytes,
         elements: &Elements,
         shape: &[u64],
-        _: &CodecOptions,
     ) -> Result<Vec<u8>, CodecError> {
         let data_type = elements.data_type();
         let Some(parts) = self.suited(alloc, data_type)? else {
@@ -195,13 +193,12 @@ impl ArrayToBytesCodecTraits for PackBitsCodec {
         }
     }
 
-    fn decode(
+    fn decode_in_order(
         &self,
         alloc: Global,
         value: Vec<u8>,
         elements: &Elements,
         shape: &[u64],
-        _: &CodecOptions,
     ) -> Result<ArrayBytes, CodecError> {
         let data_type = elements.data_type();
         let Some(parts) = self.suited(alloc, data_type)? else {
@@ -271,12 +268,11 @@ impl ArrayToBytesCodecTraits for PackBitsCodec {
         shape.to_vec(alloc)
     }
 
-    fn partial_decode<D: BytesPartialDecoderTraits>(
+    fn partial_decode_in_order<D: BytesPartialDecoderTraits>(
         &self,
         alloc: Global,
         source: &mut D,
         part: ArrayPart<'_>,
-        options: &CodecOptions,
     ) -> Result<ArrayBytes, CodecError> {
         let Some(components) = self.suited(alloc, part.elements.data_type())? else {
             return Err(CodecError::Fit);
@@ -291,7 +287,6 @@ impl ArrayToBytesCodecTraits for PackBitsCodec {
             codec: *self,
             components: components.as_slice(),
             part,
-            options,
         };
         read_asked(alloc, source, packed)
     }
@@ -305,29 +300,26 @@ impl ArrayToBytesCodecTraits for PackBitsCodec {
         _: Global,
         _: ArrayBytes,
         _: ArrayPart<'_>,
-        _: &CodecOptions,
     ) -> Result<Option<ValuePatches>, CodecError> {
         Ok(None)
     }
 
-    fn partial_encode<E: BytesPartialEncoderTraits>(
+    fn partial_encode_in_order<E: BytesPartialEncoderTraits>(
         &self,
         alloc: Global,
         source: &mut E,
         bytes: ArrayBytes,
         part: ArrayPart<'_>,
-        options: &CodecOptions,
     ) -> Result<(), CodecError> {
-        encode_whole(self, alloc, source, bytes, part, options)
+        encode_whole(self, alloc, source, bytes, part)
     }
 
-    fn compact(
+    fn compact_in_order(
         &self,
         alloc: Global,
         _: &[u8],
         elements: &Elements,
         _: &[u64],
-        _: &CodecOptions,
     ) -> Result<Option<Vec<u8>>, CodecError> {
         if self.suited(alloc, elements.data_type())?.is_none() {
             return Err(CodecError::Fit);
@@ -365,9 +357,8 @@ impl WholeValues for PackBitsCodec {
         bytes: ArrayBytes,
         elements: &Elements,
         shape: &[u64],
-        options: &CodecOptions,
     ) -> Result<Vec<u8>, CodecError> {
-        self.encode(alloc, bytes, elements, shape, options)
+        self.encode_in_order(alloc, bytes, elements, shape)
     }
 
     fn decode_value(
@@ -376,9 +367,8 @@ impl WholeValues for PackBitsCodec {
         value: Vec<u8>,
         elements: &Elements,
         shape: &[u64],
-        options: &CodecOptions,
     ) -> Result<ArrayBytes, CodecError> {
-        self.decode(alloc, value, elements, shape, options)
+        self.decode_in_order(alloc, value, elements, shape)
     }
 
     fn keeps_fill(&self) -> bool {

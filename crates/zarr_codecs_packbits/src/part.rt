@@ -11,7 +11,6 @@ ghost use Rattle.zarr_codecs_packbits.specs.Packing.{Suits};
 ghost use Rattle.zarr_codecs_packbits.specs.Views.{padding_of};
 
 use crate::codec::PackBitsCodec;
-use zarr_codecs_options::CodecOptions;
 use zarr_codecs_traits::ArrayPart;
 use zarr_codecs_types::Component;
 
@@ -22,7 +21,6 @@ pub(crate) struct PackedPart<'a> {
     pub codec: PackBitsCodec,
     pub components: &'a [Component],
     pub part: ArrayPart<'a>,
-    pub options: &'a CodecOptions,
     ghost suits: { Suits codec (elements_of part.elements.now).type components.now },
     ghost inside: { are_inside part.shape.now (asked_of part.indexer) ≡ true },
     ghost small: { product part.shape.now < 2 ^ 63 },

@@ -4,6 +4,7 @@ ghost use Rattle.zarr_codecs_meaning.specs.Chains.{Chain};
 ghost use Rattle.zarr_codecs_meaning.specs.Fits.{fits};
 ghost use Rattle.zarr_codecs_arrays.specs.Views.{elements_of};
 ghost use Rattle.zarr_codecs_traits.specs.Indexers.{are_inside, asked_of};
+ghost use Rattle.zarr_codecs_traits.specs.Arrays.{coded_part};
 ghost use Rattle.zarr_codecs_traits.specs.Outcomes.{DecodesPart};
 ghost use Rattle.zarr_codecs_traits.specs.Sources.{refused_after, value_length};
 ghost use Rattle.zarr_codecs_packbits.specs.Parts.{GivesPacked, most_of_packed};
@@ -84,7 +85,7 @@ fn decode_packed(
 {
     let (part, codec) = (packed.part, packed.codec);
     let data_type = part.elements.data_type();
-    match codec.decode(alloc, value, part.elements, part.shape, packed.options) {
+    match codec.decode_in_order(alloc, value, part.elements, part.shape) {
         Ok(bytes) => Ok(take_asked(alloc, &bytes, part.shape, part.indexer, data_type)?),
         Err(error) => Err(error),
     }
@@ -94,9 +95,8 @@ fn decode_packed(
 /// values that would have 2^63 bytes or more are answered `Memory`.
 fn fill_asked(alloc: Global, part: ArrayPart<'_>) -> Result<ArrayBytes, CodecError>
     requires inside { are_inside part.shape.now (asked_of part.indexer) ≡ true }
-    ensures part { (chain : Chain)
-        → fits chain (elements_of part.entry.elements.now).type part.entry.shape.now ≡ true
-        → DecodesPart chain (elements_of part.entry.elements.now) part.entry.shape.now None
+    ensures part { (chain : Chain) → fits chain (elements_of part.entry.elements.now).type
+        part.entry.shape.now ≡ true → DecodesPart (coded_part chain part.entry) None
         (asked_of part.entry.indexer) result }
     ensures no_source { (count : ℕ) → refused_after count result ≡ count }
 {

@@ -19,6 +19,7 @@ use Rattle.zarr_codecs_meaning.proofs.Lists.{if_some, some_same}
 use Rattle.zarr_codecs_meaning.proofs.PartReading.{part_read}
 use Rattle.zarr_codecs_meaning.proofs.Tight.{tight_stands}
 use Rattle.zarr_codecs_traits.specs.Indexers.{put}
+use Rattle.zarr_codecs_traits.specs.Arrays.{coded}
 use Rattle.zarr_codecs_traits.specs.PartWriting.{ChunkTight, cells_after, cells_shown, only_cell}
 
 -- ---- elements put into a list
@@ -127,6 +128,6 @@ shown_back other (c ∷ cs) = ap (λ xs. c ∷ xs) (shown_back other cs)
 
 -- the cells that an array would have are those that it had, with the new ones put into them
 pub after_decoded : (chain : Chain) (elements : Elements) (shape : List ℕ) (stored : Option (List ℕ)) (ns : List ℕ) (cells before : List Cell) → fits chain elements.type shape ≡ true → chunk_decoded chain elements shape stored ≡ Some before
-    → cells_after chain elements shape stored ns cells ≡ put ns cells before
+    → cells_after (coded chain elements shape) stored ns cells ≡ put ns cells before
 after_decoded chain elements shape stored ns cells before fit is =
     ap (put ns cells) (ap (map (only_cell elements.fill)) (shown_cells chain elements shape stored before fit is) ∙ shown_back elements.fill before)

@@ -20,6 +20,7 @@ use Rattle.zarr_codecs_arrays.specs.Outcomes.{IsCounted, IsInvalid, IsMiscounted
 use Rattle.zarr_codecs_arrays.specs.declared.error.CodecError.{CodecError}
 use Rattle.zarr_codecs_arrays.specs.declared.error.CodecError.TheVariants as error
 use Rattle.zarr_codecs_traits.specs.Indexers.{Asked, are_inside, numbers_asked, put}
+use Rattle.zarr_codecs_traits.specs.Arrays.{coded, update_of}
 use Rattle.zarr_codecs_traits.specs.Outcomes.{IsEncoded, IsRefused}
 use Rattle.zarr_codecs_traits.specs.PartWriting.{IsEncodedInto, IsRefusedInto, MeetsLost, NotEncodedWhole}
 use Rattle.zarr_codecs_traits.specs.Sources.{value_bytes}
@@ -41,10 +42,10 @@ pub record IsWritten (chain : Chain) (exact : Bool) (elements : Elements) (shape
   pub valid : IsValid elements.type payload (length (numbers_asked shape asked)) cells
   pub inside : are_inside shape asked ≡ true
   pub stored : chunk_decoded chain elements shape old ≡ Some before
-  pub is : IsEncoded chain exact elements shape made (put (numbers_asked shape asked) cells before) value
+  pub is : IsEncoded (coded chain elements shape) exact made (put (numbers_asked shape asked) cells before) value
 
 pub written_whole : (chain : Chain) (exact : Bool) (elements : Elements) (shape : List ℕ) (asked : Asked) (payload made : Payload) (cells before : List Cell) (old : Option (List ℕ)) (value : List ℕ)
-    → IsWritten chain exact elements shape asked payload made cells before old value → IsEncodedInto chain exact elements shape asked payload cells old (Some value)
+    → IsWritten chain exact elements shape asked payload made cells before old value → IsEncodedInto (coded chain elements shape) exact (update_of asked payload old) cells (Some value)
 written_whole chain exact elements shape asked payload made cells before old value h =
     let ns = numbers_asked shape asked in
     let fit = h.is.fit in
@@ -85,7 +86,7 @@ pub record IsDropped (chain : Chain) (elements : Elements) (shape : List ℕ) (a
   pub stored : chunk_decoded chain elements shape old ≡ Some before
 
 pub dropped_whole : (chain : Chain) (exact : Bool) (elements : Elements) (shape : List ℕ) (asked : Asked) (payload : Payload) (cells before : List Cell) (old : Option (List ℕ))
-    → IsDropped chain elements shape asked payload cells before old → IsEncodedInto chain exact elements shape asked payload cells old None
+    → IsDropped chain elements shape asked payload cells before old → IsEncodedInto (coded chain elements shape) exact (update_of asked payload old) cells None
 dropped_whole chain exact elements shape asked payload cells before old h =
     let ns = numbers_asked shape asked in
     let fit = h.fit in
@@ -144,7 +145,7 @@ all_fill_of elements cells = unwrap_or (option_map (is_fill elements.fill) cells
 
 pub encoded_whole : (chain : Chain) (exact : Bool) (elements : Elements) (shape : List ℕ) (asked : Asked) (payload array made : Payload) (old : Option (List ℕ)) (result : Result (Option (Vec ℕ Global)) CodecError)
     → HasUpdated chain elements shape asked payload array made old → EncodesOrDrops chain exact elements shape made result
-    → IfOk result (λ value. (cells : List Cell) × IsEncodedInto chain exact elements shape asked payload cells old (value_bytes value))
+    → IfOk result (λ value. (cells : List Cell) × IsEncodedInto (coded chain elements shape) exact (update_of asked payload old) cells (value_bytes value))
 encoded_whole chain exact elements shape asked payload array made old (Err e) h done = tt
 encoded_whole chain exact elements shape asked payload array made old (Ok None) h done = (
   h.can.cells,
@@ -171,14 +172,14 @@ encoded_whole chain exact elements shape asked payload array made old (Ok (Some 
         valid = h.can.valid;
         inside = h.can.inside;
         stored = h.stored;
-        is = subst (λ cs. IsEncoded chain exact elements shape made cs value.items) same done.1;
+        is = subst (λ cs. IsEncoded (coded chain elements shape) exact made cs value.items) same done.1;
       }),
     )
 
 -- ---- why it isn't written
 
 refused_after_update : (chain : Chain) (elements : Elements) (shape : List ℕ) (asked : Asked) (payload array made : Payload) (old : Option (List ℕ)) (refuses : Chain → Elements → List ℕ → List Cell → Type 0) (after : List Cell)
-    → HasUpdated chain elements shape asked payload array made old → IsRefused chain elements shape made after refuses → IsRefusedInto chain elements shape asked payload old (refuses chain elements shape)
+    → HasUpdated chain elements shape asked payload array made old → IsRefused (coded chain elements shape) made after refuses → IsRefusedInto (coded chain elements shape) (update_of asked payload old) (refuses chain elements shape)
 refused_after_update chain elements shape asked payload array made old refuses after h why =
     let ns = numbers_asked shape asked in
     let same : after ≡ put ns h.can.cells h.before = some_same (sym why.valid.is.lists ∙ h.lists) in
@@ -214,7 +215,7 @@ not_invalid type payload count cells error.CellOutOfRange valid why =
 not_invalid type payload count cells e valid why = not_miscounted type payload count cells e valid.is why
 
 pub encode_refused : (chain : Chain) (exact : Bool) (elements : Elements) (shape : List ℕ) (asked : Asked) (payload array made : Payload) (old : Option (List ℕ)) (result : Result (Option (Vec ℕ Global)) CodecError)
-    → HasUpdated chain elements shape asked payload array made old → EncodesOrDrops chain exact elements shape made result → NotEncodedWhole chain elements shape asked payload old result
+    → HasUpdated chain elements shape asked payload array made old → EncodesOrDrops chain exact elements shape made result → NotEncodedWhole (coded chain elements shape) (update_of asked payload old) result
 encode_refused chain exact elements shape asked payload array made old (Ok None) h why = tt
 encode_refused chain exact elements shape asked payload array made old (Ok (Some value)) h why = tt
 encode_refused chain exact elements shape asked payload array made old (Err error.Fit) h why = why
@@ -228,7 +229,7 @@ encode_refused chain exact elements shape asked payload array made old (Err e) h
     absurd (not_invalid elements.type made (product shape) (put (numbers_asked shape asked) h.can.cells h.before) e (updated_valid chain elements shape asked payload array made old h) why.1)
 
 pub update_refused : (A : Type 0) (chain : Chain) (elements : Elements) (type : DataType) (shape : List ℕ) (asked : Asked) (payload array : Payload) (old : Option (List ℕ)) (before : List Cell) (e : CodecError)
-    → fits chain elements.type shape ≡ true → IsCounted elements.type array (product shape) before → type ≡ elements.type → Updates type shape asked array payload (Err e) → NotEncodedWhole {A = A} chain elements shape asked payload old (Err e)
+    → fits chain elements.type shape ≡ true → IsCounted elements.type array (product shape) before → type ≡ elements.type → Updates type shape asked array payload (Err e) → NotEncodedWhole {A = A} (coded chain elements shape) (update_of asked payload old) (Err e)
 update_refused A chain elements type shape asked payload array old before error.IncompatibleIndexer fit counted same why = why
 update_refused A chain elements type shape asked payload array old before error.Size fit counted same why = inl (inl why)
 update_refused A chain elements type shape asked payload array old before error.Memory fit counted same why = tt

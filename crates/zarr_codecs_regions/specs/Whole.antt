@@ -13,6 +13,7 @@ use Rattle.zarr_codecs_arrays.specs.declared.array_bytes.ArrayBytes.{ArrayBytes}
 use Rattle.zarr_codecs_arrays.specs.declared.error.CodecError.{CodecError}
 use Rattle.zarr_codecs_arrays.specs.declared.error.CodecError.TheVariants as error
 use Rattle.zarr_codecs_traits.specs.Indexers.{Asked, are_inside, numbers_asked}
+use Rattle.zarr_codecs_traits.specs.Arrays.{coded}
 use Rattle.zarr_codecs_traits.specs.Outcomes.{Encodes}
 
 -- a payload has a valid element for each place that is asked for of an array that the chain suits
@@ -42,11 +43,11 @@ is_all_fill elements payload = unwrap_or (option_map (is_fill elements.fill) (ce
 
 -- elements are encoded to a value, where the chain has a value for them: a chain with shards has none for fill alone
 pub record EncodesKept (chain : Chain) (exact : Bool) (elements : Elements) (shape : List ℕ) (payload : Payload) (value : Vec ℕ Global) : Type 0 where
-  pub encodes : Encodes chain exact elements shape payload (Ok value)
+  pub encodes : Encodes (coded chain elements shape) exact payload (Ok value)
   pub kept : is_plain chain ≡ false → is_all_fill elements payload ≡ false
 
 -- the value that elements of an array are encoded to, or none where a chain with shards has fill alone, or why there is neither
 abbrev pub EncodesOrDrops : Chain → Bool → Elements → List ℕ → Payload → Result (Option (Vec ℕ Global)) CodecError → Type 0
 EncodesOrDrops chain exact elements shape payload (Ok (Some value)) = EncodesKept chain exact elements shape payload value
 EncodesOrDrops chain exact elements shape payload (Ok None) = (is_plain chain ≡ false) × (is_all_fill elements payload ≡ true)
-EncodesOrDrops chain exact elements shape payload (Err e) = Encodes chain exact elements shape payload (Err e)
+EncodesOrDrops chain exact elements shape payload (Err e) = Encodes (coded chain elements shape) exact payload (Err e)

@@ -5,6 +5,7 @@ ghost use Rattle.zarr_codecs_meaning.specs.Fits.{fits};
 ghost use Rattle.zarr_codecs_meaning.specs.Types.{Cell};
 ghost use Rattle.zarr_codecs_arrays.specs.Views.{elements_of, payload_of};
 ghost use Rattle.zarr_codecs_traits.specs.Indexers.{are_inside, asked_of, numbers_asked};
+ghost use Rattle.zarr_codecs_traits.specs.Arrays.{coded_part, update_part};
 ghost use Rattle.zarr_codecs_traits.specs.PartWriting.{IsEncodedInto, NotEncodedWhole, NotTaken, WritesOnce};
 ghost use Rattle.zarr_codecs_traits.specs.Sources.{refused_after, value_bytes};
 ghost use Rattle.zarr_codecs_regions.specs.Whole.{CanBePut, EncodesOrDrops, GivesStored};
@@ -14,7 +15,6 @@ use crate::update::update_array_bytes;
 use crate::whole_values::WholeValues;
 use std::alloc::Global;
 use zarr_codecs_arrays::{ArrayBytes, CodecError};
-use zarr_codecs_options::CodecOptions;
 use zarr_codecs_traits::{ArrayPart, BytesPartialEncoderTraits, Indexer, read_value};
 use zarr_grids_boxes::walk::count_places;
 
@@ -29,17 +29,16 @@ pub fn encode_whole<C: WholeValues, E: BytesPartialEncoderTraits>(
     source: &mut E,
     bytes: ArrayBytes,
     part: ArrayPart<'_>,
-    options: &CodecOptions,
 ) -> Result<(), CodecError>
-    ensures ok { IsTrue (E.is_honest source.old) → OnOk result ((cells : List Cell)
-        × IsEncodedInto (C.meaning codec.now) (C.is_function codec.now)
-        (elements_of part.entry.elements.now) part.entry.shape.now (asked_of part.entry.indexer)
-        (payload_of bytes) cells (E.contents source.old) (E.contents source.new)) }
+    ensures ok { IsTrue (E.is_honest source.old) → OnOk result
+        ((cells : List Cell) × IsEncodedInto (coded_part (C.meaning codec.now) part.entry)
+        (C.is_function codec.now) (update_part part.entry bytes (E.contents source.old)) cells
+        (E.contents source.new)) }
     ensures err { IsTrue (E.is_honest source.old) →
         OnErr result (E.contents source.new ≡ E.contents source.old) }
-    ensures cause { IsTrue (E.is_honest source.old) → NotEncodedWhole (C.meaning codec.now)
-        (elements_of part.entry.elements.now) part.entry.shape.now (asked_of part.entry.indexer)
-        (payload_of bytes) (E.contents source.old) result }
+    ensures cause { IsTrue (E.is_honest source.old) → NotEncodedWhole
+        (coded_part (C.meaning codec.now) part.entry) (update_part part.entry bytes
+        (E.contents source.old)) result }
     ensures refused { E.refused_calls source.new ≡
         refused_after (E.refused_calls source.old) result }
     ensures once { WritesOnce (E.accepted_writes source.old) (E.accepted_writes source.new) result }
@@ -49,7 +48,7 @@ pub fn encode_whole<C: WholeValues, E: BytesPartialEncoderTraits>(
         return Err(error);
     }
     match read_value(alloc, source) {
-        Ok(old) => match updated_value(codec, alloc, old, bytes, part, options) {
+        Ok(old) => match updated_value(codec, alloc, old, bytes, part) {
             Ok(Some(value)) => source.set(value),
             Ok(None) => source.erase(),
             Err(error) => Err(error),
@@ -70,9 +69,9 @@ pub fn test_given<C: WholeValues>(
 ) -> Result<(), CodecError>
     ensures ok { OnOk result (CanBePut (C.meaning codec.now) (elements_of part.entry.elements.now)
         part.entry.shape.now (asked_of part.entry.indexer) (payload_of bytes.now)) }
-    ensures cause { (stored : Option (List ℕ)) → NotTaken (C.meaning codec.now)
-        (elements_of part.entry.elements.now) part.entry.shape.now (asked_of part.entry.indexer)
-        (payload_of bytes.now) stored result }
+    ensures cause { (stored : Option (List ℕ)) → NotTaken
+        (coded_part (C.meaning codec.now) part.entry) (update_part part.entry bytes.now stored)
+        result }
     ensures no_source { (count : ℕ) → refused_after count result ≡ count }
 {
     let data_type = part.elements.data_type();
@@ -107,7 +106,6 @@ fn stored_elements<C: WholeValues>(
     alloc: Global,
     value: Option<Vec<u8>>,
     part: ArrayPart<'_>,
-    options: &CodecOptions,
 ) -> Result<ArrayBytes, CodecError>
     requires fit { fits (C.meaning codec.now) (elements_of part.elements.now).type part.shape.now
         ≡ true }
@@ -115,7 +113,7 @@ fn stored_elements<C: WholeValues>(
         part.entry.shape.now (value_bytes value) result }
 {
     match value {
-        Some(value) => codec.decode_value(alloc, value, part.elements, part.shape, options),
+        Some(value) => codec.decode_value(alloc, value, part.elements, part.shape),
         None => match count_places(part.shape) {
             Some(count) => ArrayBytes::new_fill_value(alloc, part.elements, count),
             None => Err(CodecError::Size),
@@ -131,20 +129,17 @@ fn updated_value<C: WholeValues>(
     old: Option<Vec<u8>>,
     bytes: ArrayBytes,
     part: ArrayPart<'_>,
-    options: &CodecOptions,
 ) -> Result<Option<Vec<u8>>, CodecError>
     requires given { CanBePut (C.meaning codec.now) (elements_of part.elements.now) part.shape.now
         (asked_of part.indexer) (payload_of bytes) }
-    ensures ok { IfOk result (λ value. (cells : List Cell)
-        × IsEncodedInto (C.meaning codec.now) (C.is_function codec.now)
-        (elements_of part.entry.elements.now) part.entry.shape.now (asked_of part.entry.indexer)
-        (payload_of bytes) cells (value_bytes old) (value_bytes value)) }
-    ensures cause { NotEncodedWhole (C.meaning codec.now) (elements_of part.entry.elements.now)
-        part.entry.shape.now (asked_of part.entry.indexer) (payload_of bytes) (value_bytes old)
-        result }
+    ensures ok { IfOk result (λ value. (cells : List Cell) × IsEncodedInto
+        (coded_part (C.meaning codec.now) part.entry) (C.is_function codec.now)
+        (update_part part.entry bytes (value_bytes old)) cells (value_bytes value)) }
+    ensures cause { NotEncodedWhole (coded_part (C.meaning codec.now) part.entry)
+        (update_part part.entry bytes (value_bytes old)) result }
     ensures no_source { (count : ℕ) → refused_after count result ≡ count }
 {
-    let before = match stored_elements(codec, alloc, old, part, options) {
+    let before = match stored_elements(codec, alloc, old, part) {
         Ok(before) => before,
         Err(error) => return Err(error),
     };
@@ -157,7 +152,7 @@ fn updated_value<C: WholeValues>(
         &bytes,
         elements.data_type(),
     ) {
-        Ok(updated) => encode_updated(codec, alloc, updated, part, options),
+        Ok(updated) => encode_updated(codec, alloc, updated, part),
         Err(error) => Err(error),
     }
 }
@@ -169,7 +164,6 @@ fn encode_updated<C: WholeValues>(
     alloc: Global,
     updated: ArrayBytes,
     part: ArrayPart<'_>,
-    options: &CodecOptions,
 ) -> Result<Option<Vec<u8>>, CodecError>
     ensures { EncodesOrDrops (C.meaning codec.now) (C.is_function codec.now)
         (elements_of part.entry.elements.now) part.entry.shape.now (payload_of updated) result }
@@ -178,7 +172,7 @@ fn encode_updated<C: WholeValues>(
     if !codec.keeps_fill() && updated.is_fill_value(elements) {
         return Ok(None);
     }
-    match codec.encode_array(alloc, updated, elements, shape, options) {
+    match codec.encode_array(alloc, updated, elements, shape) {
         Ok(value) => Ok(Some(value)),
         Err(error) => Err(error),
     }

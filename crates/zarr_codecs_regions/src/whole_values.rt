@@ -5,11 +5,11 @@ ghost use Rattle.zarr_codecs_meaning.specs.Fits.{fits, is_plain};
 ghost use Rattle.zarr_codecs_meaning.specs.Laws.{IsLawfulChain};
 ghost use Rattle.zarr_codecs_types.specs.Views.{type_of};
 ghost use Rattle.zarr_codecs_arrays.specs.Views.{elements_of, payload_of};
+ghost use Rattle.zarr_codecs_traits.specs.Arrays.{coded};
 ghost use Rattle.zarr_codecs_traits.specs.Outcomes.{Decodes, Encodes};
 
 use std::alloc::{AllocError, Global};
 use zarr_codecs_arrays::{ArrayBytes, CodecError, Elements};
-use zarr_codecs_options::CodecOptions;
 use zarr_codecs_types::DataType;
 
 /// A codec between arrays and bytes, so far as `encode_whole` needs it. Each call that is named
@@ -38,10 +38,9 @@ pub trait WholeValues: Sized {
         bytes: ArrayBytes,
         elements: &Elements,
         shape: &[u64],
-        options: &CodecOptions,
     ) -> Result<Vec<u8>, CodecError>
-        ensures { Encodes (meaning self.now) (is_function self.now) (elements_of elements.now)
-            shape.now (payload_of bytes) result };
+        ensures { Encodes (coded (meaning self.now) (elements_of elements.now) shape.now)
+            (is_function self.now) (payload_of bytes) result };
 
     /// As `decode`.
     fn decode_value(
@@ -50,10 +49,9 @@ pub trait WholeValues: Sized {
         value: Vec<u8>,
         elements: &Elements,
         shape: &[u64],
-        options: &CodecOptions,
     ) -> Result<ArrayBytes, CodecError>
-        ensures { Decodes (meaning self.now) (elements_of elements.now) shape.now value.items
-            result };
+        ensures { Decodes (coded (meaning self.now) (elements_of elements.now) shape.now)
+            value.items result };
 
     /// Whether an array that became all fill keeps a value. A codec that makes shards takes it
     /// away.

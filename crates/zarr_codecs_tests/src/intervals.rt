@@ -1,6 +1,8 @@
 //! Intervals of a source as sources, with values typed in by hand.
 use crate::samples::{are, zeros};
 use std::alloc::Global;
+use std::marker::Sync;
+use std::thread::Threads;
 use zarr_codecs::{
     ArrayBytes, ArrayPart, ArrayToBytesCodecTraits, ByteRange, BytesCodec,
     BytesPartialDecoderTraits, CodecError, CodecOptions, Indexer, IntervalSource, MemorySource,
@@ -16,6 +18,7 @@ const MIDDLE: ByteRange = ByteRange {
 
 /// The cell with a number that `bytes` reads of four.
 fn read(
+    rt: &(impl Threads + Sync),
     alloc: Global,
     source: &mut IntervalSource<'_, MemorySource>,
     number: u64,
@@ -26,24 +29,28 @@ fn read(
         shape: &[4],
         indexer: Indexer::List(&[number]),
     };
-    BytesCodec::new(None).partial_decode(alloc, source, part, &CodecOptions::default())
+    BytesCodec::new(None).partial_decode(rt, alloc, source, part, &CodecOptions::default())
 }
 
 /// Whether the second cell of four that stand in the middle of eight bytes is this one, and how
 /// many bytes are taken for it.
-fn is_read(alloc: Global, want: u8) -> Result<(bool, u128), CodecError> {
+fn is_read(
+    rt: &(impl Threads + Sync),
+    alloc: Global,
+    want: u8,
+) -> Result<(bool, u128), CodecError> {
     let mut source = MemorySource::new(Some(EIGHT.to_vec(alloc)?));
     let mut interval = IntervalSource {
         source: &mut source,
         range: MIDDLE,
     };
-    let found = read(alloc, &mut interval, 1)?;
+    let found = read(rt, alloc, &mut interval, 1)?;
     Ok((are(&found, &[want]), source.given_bytes()))
 }
 
 #[test]
 fn an_interval_is_read_as_a_value(rt: HostRuntime) {
-    assert!(rt; matches!(is_read(rt.alloc(), 3), Ok((true, 1))));
+    assert!(rt; matches!(is_read(&rt, rt.alloc(), 3), Ok((true, 1))));
 }
 
 /// What a range past the end of an interval of four bytes in the middle of eight gives.

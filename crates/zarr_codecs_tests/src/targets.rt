@@ -1,14 +1,18 @@
 //! Values that are decoded into boxes of other elements, with bytes typed in by hand.
 use crate::samples::{elements, fixed};
 use std::alloc::Global;
+use std::marker::Sync;
 use std::ops::Range;
+use std::thread::Threads;
 use zarr_codecs::{
     ArrayBytes, ArrayBytesDecodeIntoTarget, ArraySubset, ArrayToBytesCodecTraits, BytesCodec,
-    CodecError, CodecOptions, FillValue, OptionalTarget, TargetBytes, WholeArray, data_type,
+    CodecError, CodecOptions, EncodedArray, FillValue, OptionalTarget, TargetBytes, WholeArray,
+    data_type,
 };
 
 /// Decodes two elements of 16 bits, the highest byte first, into a box of six in two rows.
 fn decode_two(
+    rt: &(impl Threads + Sync),
     alloc: Global,
     value: &[u8],
     bytes: &mut [u8],
@@ -26,8 +30,11 @@ fn decode_two(
         region: &region,
         width: 2,
     };
-    let value = value.to_vec(alloc)?;
-    BytesCodec::big().decode_into(alloc, value, array, &mut target, &CodecOptions::default())
+    let encoded = EncodedArray {
+        value: value.to_vec(alloc)?,
+        array,
+    };
+    BytesCodec::big().decode_into(rt, alloc, encoded, &mut target, &CodecOptions::default())
 }
 
 const NINES: [u8; 12] = [9, 9, 9, 9, 9, 9, 9, 9, 9, 9, 9, 9];
@@ -35,7 +42,7 @@ const NINES: [u8; 12] = [9, 9, 9, 9, 9, 9, 9, 9, 9, 9, 9, 9];
 #[test]
 fn elements_stand_in_the_box_and_others_stay(rt: HostRuntime) {
     let mut bytes = NINES;
-    let done = decode_two(rt.alloc(), &[0, 1, 0, 2], &mut bytes, &[0..2, 1..2]);
+    let done = decode_two(&rt, rt.alloc(), &[0, 1, 0, 2], &mut bytes, &[0..2, 1..2]);
     assert!(rt; done.is_ok());
     assert!(rt; bytes == [9, 9, 1, 0, 9, 9, 9, 9, 2, 0, 9, 9]);
 }
@@ -43,14 +50,14 @@ fn elements_stand_in_the_box_and_others_stay(rt: HostRuntime) {
 #[test]
 fn a_box_of_three_takes_no_two_elements(rt: HostRuntime) {
     let mut bytes = NINES;
-    let refused = decode_two(rt.alloc(), &[0, 1, 0, 2], &mut bytes, &[0..1, 0..3]);
+    let refused = decode_two(&rt, rt.alloc(), &[0, 1, 0, 2], &mut bytes, &[0..1, 0..3]);
     assert!(rt; matches!(refused, Err(CodecError::InvalidNumberOfElements)));
 }
 
 #[test]
 fn a_damaged_value_leaves_the_target(rt: HostRuntime) {
     let mut bytes = NINES;
-    let refused = decode_two(rt.alloc(), &[0, 1, 0], &mut bytes, &[0..2, 1..2]);
+    let refused = decode_two(&rt, rt.alloc(), &[0, 1, 0], &mut bytes, &[0..2, 1..2]);
     assert!(rt; matches!(refused, Err(CodecError::Damage)));
     assert!(rt; bytes == NINES);
 }

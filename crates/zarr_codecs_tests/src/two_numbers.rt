@@ -1,9 +1,11 @@
 //! A type of a caller's own, whose elements are two numbers each, with values typed in by hand.
 use crate::samples::{are, elements, fixed};
 use std::alloc::{AllocError, Global};
+use std::marker::Sync;
+use std::thread::Threads;
 use zarr_codecs::{
     ArrayBytes, ArrayToBytesCodecTraits, BytesCodec, CodecError, CodecOptions, Component, DataType,
-    DataTypeError, Elements, FillValue, FillValueError, Sign,
+    DataTypeError, Elements, FillValue, FillValueError, Sign, WholeArray,
 };
 
 /// A 16-bit number without a sign and a 4-bit one with a sign, in three bytes.
@@ -59,17 +61,33 @@ fn pairs(alloc: Global) -> Result<Elements, CodecError> {
 }
 
 /// Whether `bytes` with the highest byte first makes this value of the bytes of two pairs.
-fn is_encoded(alloc: Global, bytes: &[u8], value: &[u8]) -> Result<bool, CodecError> {
+fn is_encoded(
+    rt: &(impl Threads + Sync),
+    alloc: Global,
+    bytes: &[u8],
+    value: &[u8],
+) -> Result<bool, CodecError> {
     let (elements, given) = (pairs(alloc)?, fixed(alloc, bytes)?);
-    let options = CodecOptions::default();
-    let made = BytesCodec::big().encode(alloc, given, &elements, &[2], &options)?;
+    let array = WholeArray {
+        elements: &elements,
+        shape: &[2],
+    };
+    let made = BytesCodec::big().encode(rt, alloc, given, array, &CodecOptions::default())?;
     Ok(made.as_slice() == value)
 }
 
 /// The two pairs that it makes of a value.
-fn decoded(alloc: Global, value: &[u8]) -> Result<ArrayBytes, CodecError> {
+fn decoded(
+    rt: &(impl Threads + Sync),
+    alloc: Global,
+    value: &[u8],
+) -> Result<ArrayBytes, CodecError> {
     let (elements, value) = (pairs(alloc)?, value.to_vec(alloc)?);
-    BytesCodec::big().decode(alloc, value, &elements, &[2], &CodecOptions::default())
+    let array = WholeArray {
+        elements: &elements,
+        shape: &[2],
+    };
+    BytesCodec::big().decode(rt, alloc, value, array, &CodecOptions::default())
 }
 
 const PAIRS: [u8; 6] = [1, 2, 7, 3, 4, 248];
@@ -78,7 +96,7 @@ const STORED: [u8; 6] = [2, 1, 7, 4, 3, 248];
 
 #[test]
 fn each_number_of_an_element_is_put_the_other_way_round(rt: HostRuntime) {
-    assert!(rt; matches!(is_encoded(rt.alloc(), &PAIRS, &STORED), Ok(true)));
-    let found = decoded(rt.alloc(), &STORED);
+    assert!(rt; matches!(is_encoded(&rt, rt.alloc(), &PAIRS, &STORED), Ok(true)));
+    let found = decoded(&rt, rt.alloc(), &STORED);
     assert!(rt; matches!(&found, Ok(found) if are(found, &PAIRS)));
 }

@@ -11,14 +11,15 @@ use Rattle.zarr_codecs_meaning.specs.Encoding.{Pair, index_size}
 use Rattle.zarr_codecs_meaning.specs.Fits.{is_plain}
 use Rattle.zarr_codecs_meaning.specs.Keeping.{arranged}
 use Rattle.zarr_codecs_meaning.specs.Partial.{encodes_in_part}
-use Rattle.zarr_codecs_meaning.specs.Payloads.{Payload}
 use Rattle.zarr_codecs_meaning.specs.Places.{Part, encoded_shape, gather, index_shape, parts_of, place_numbers, position_of, source_places, undone_places}
+use Rattle.zarr_codecs_meaning.specs.Refusals.{CodecRefuses}
 use Rattle.zarr_codecs_meaning.specs.Types.{Cell, Elements, uint64, zero_filled}
 use Rattle.zarr_codecs_meaning.proofs.Lists.{bind_some, map_some, some_same}
 use Rattle.zarr_codecs_arrays.specs.declared.error.CodecError.{CodecError}
 use Rattle.zarr_codecs_arrays.specs.declared.error.CodecError.TheVariants as error
-use Rattle.zarr_codecs_traits.specs.Indexers.{Asked}
-use Rattle.zarr_codecs_traits.specs.PartWriting.{IsDamaged, IsLostAmong, IsPlaced, MeetsLost, NotPut, StopsPart}
+use Rattle.zarr_codecs_traits.specs.Arrays.{Coded, Update}
+use Rattle.zarr_codecs_traits.specs.Indexers.{numbers_asked}
+use Rattle.zarr_codecs_traits.specs.PartWriting.{IsDamaged, IsLostAmong, IsPlaced, MeetsLost, NotEncodedInto, NotEncodedWhole, NotPut, NotTaken, StopsPart, StopsWrite, cells_after}
 use Rattle.zarr_sharding_changes.specs.Compactions.{compaction, damaged, nothing_to_gain, undone_compaction}
 
 -- ---- a value that is decoded has lost nothing
@@ -115,14 +116,27 @@ placed_before codec chain shape (Some value) is = λ partly lost. is (partly_ins
 
 -- ---- elements that are not taken are not put, whatever counts as damage
 
-pub not_put : {A : Type 0} (less more : Type 0) (chain : Chain) (elements : Elements) (shape : List ℕ) (asked : Asked) (payload : Payload) (stored : Option (List ℕ)) (r : Result A CodecError) → (less → more)
-    → NotPut less chain elements shape asked payload stored r → NotPut more chain elements shape asked payload stored r
-not_put less more chain elements shape asked payload stored (Ok value) law h = tt
-not_put less more chain elements shape asked payload stored (Err error.Fit) law h = h
-not_put less more chain elements shape asked payload stored (Err error.IncompatibleIndexer) law h = h
-not_put less more chain elements shape asked payload stored (Err error.Size) law h = h
-not_put less more chain elements shape asked payload stored (Err error.Codec) law h = h
-not_put less more chain elements shape asked payload stored (Err error.Damage) law h = (h.0, law h.1)
-not_put less more chain elements shape asked payload stored (Err error.Source) law h = tt
-not_put less more chain elements shape asked payload stored (Err error.Memory) law h = tt
-not_put less more chain elements shape asked payload stored (Err e) law h = h
+pub not_put : {A : Type 0} (less more : Type 0) (few many : List Cell → Type 0) (array : Coded) (update : Update) (r : Result A CodecError) → (less → more) → ((after : List Cell) → few after → many after)
+    → NotPut less few array update r → NotPut more many array update r
+not_put less more few many array update (Ok value) law wider h = tt
+not_put less more few many array update (Err error.Fit) law wider h = h
+not_put less more few many array update (Err error.IncompatibleIndexer) law wider h = h
+not_put less more few many array update (Err error.Size) law wider h = h
+not_put less more few many array update (Err error.Codec) law wider h =
+    record { cells = h.cells; valid = h.valid; fit = h.fit; inside = h.inside; is = wider (cells_after array update.stored (numbers_asked array.shape update.asked) h.cells) h.is }
+not_put less more few many array update (Err error.Damage) law wider h = (h.0, law h.1)
+not_put less more few many array update (Err error.Source) law wider h = tt
+not_put less more few many array update (Err error.Memory) law wider h = tt
+not_put less more few many array update (Err e) law wider h = h
+
+-- ---- what is refused where the whole is asked for, and before anything is
+
+pub whole_not_put : {A : Type 0} (array : Coded) (update : Update) (r : Result A CodecError) → encodes_in_part array.chain ≡ false → NotEncodedWhole array update r → NotEncodedInto array update r
+whole_not_put array update r whole h =
+    let refused = λ (after : List Cell). CodecRefuses array.chain array.elements array.shape after in
+    not_put (chunk_decoded array.chain array.elements array.shape update.stored ≡ None) (StopsWrite array update) refused refused array update r
+    (λ none. inl (whole_damaged array.chain array.elements array.shape update.stored (numbers_asked array.shape update.asked) whole none)) (λ after is. is) h
+
+pub untaken_not_put : {A : Type 0} (array : Coded) (update : Update) (r : Result A CodecError) → NotTaken array update r → NotEncodedInto array update r
+untaken_not_put array update r h =
+    let refused = λ (after : List Cell). CodecRefuses array.chain array.elements array.shape after in not_put ⊥ (StopsWrite array update) refused refused array update r (λ none. absurd none) (λ after is. is) h

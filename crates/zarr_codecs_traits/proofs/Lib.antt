@@ -3,3 +3,4 @@ pub mod PartValues
 mod Intervals
 pub mod Refusals
 pub mod Damage
+pub mod CountedReads

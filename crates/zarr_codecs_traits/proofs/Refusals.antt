@@ -4,10 +4,10 @@ use Rattle.std.specs.Prelude.{IfErr}
 use Rattle.zarr_codecs_meaning.specs.Payloads.{Payload}
 use Rattle.zarr_codecs_arrays.specs.declared.error.CodecError.{CodecError}
 use Rattle.zarr_codecs_arrays.specs.declared.error.CodecError.TheVariants as error
-use Rattle.zarr_codecs_traits.specs.Sources.{IsRefusedAfter, refused_after}
+use Rattle.zarr_codecs_traits.specs.Sources.{CountsRead, IsRefusedAfter}
 
 -- nothing was read
-pub unread_refused : (A B : Type 0) (reads : Payload → Type 0) (misfits : Payload → CodecError → Type 0) (count after : ℕ) (e : CodecError) → after ≡ refused_after {A = A} count (Err e) → IsRefusedAfter {A = B} reads misfits count (Err e) after
+pub unread_refused : (A B : Type 0) (reads : Payload → Type 0) (misfits : Payload → CodecError → Type 0) (count after : ℕ) (e : CodecError) → CountsRead {A = A} count (Err e) after → IsRefusedAfter {A = B} reads misfits count (Err e) after
 unread_refused A B reads misfits count after error.Source h = inl h
 unread_refused A B reads misfits count after e h = inl h
 

@@ -1,4 +1,5 @@
 pub mod Indexers
+pub mod Arrays
 pub mod Outcomes
 pub mod Sources
 pub mod ReadBytes
@@ -10,3 +11,4 @@ pub mod PartWriting
 pub mod Representations
 pub mod Capabilities
 pub mod Compactions
+pub mod Pieces

@@ -21,6 +21,7 @@ use Rattle.zarr_codecs_arrays.specs.Views.{payload_of}
 use Rattle.zarr_codecs_arrays.specs.declared.array_bytes.ArrayBytes.{ArrayBytes}
 use Rattle.zarr_codecs_arrays.specs.declared.error.CodecError.{CodecError}
 use Rattle.zarr_codecs_arrays.specs.declared.error.CodecError.TheVariants as error
+use Rattle.zarr_codecs_traits.specs.Arrays.{Coded}
 use Rattle.zarr_codecs_traits.specs.Indexers.{Asked, are_inside, numbers_asked}
 
 -- ---- codecs between bytes
@@ -48,62 +49,63 @@ Creates reads meaning point (Err e) = reads point ≡ None
 -- ---- codecs between arrays and bytes
 
 -- a value was made of the elements of an array: what encoding them means, where what is made depends on them alone; and one that stands for them, where the chain keeps every bit
-pub record IsEncoded (chain : Chain) (exact : Bool) (elements : Elements) (shape : List ℕ) (payload : Payload) (cells : List Cell) (value : List ℕ) : Type 0 where
-  pub valid : IsValid elements.type payload (product shape) cells
-  pub fit : fits chain elements.type shape ≡ true
-  pub encodes : IsTrue exact → encoded chain elements shape cells ≡ Some value
-  pub stands : is_lossless chain elements.type ≡ true → Stands chain elements shape value cells
-  pub sized : is_size_as (representation_of chain elements.type shape) (length value) ≡ true
+pub record IsEncoded (array : Coded) (exact : Bool) (payload : Payload) (cells : List Cell) (value : List ℕ) : Type 0 where
+  pub valid : IsValid array.elements.type payload (product array.shape) cells
+  pub fit : fits array.chain array.elements.type array.shape ≡ true
+  pub encodes : IsTrue exact → encoded array.chain array.elements array.shape cells ≡ Some value
+  pub stands : is_lossless array.chain array.elements.type ≡ true → Stands array.chain array.elements array.shape value cells
+  pub sized : is_size_as (representation_of array.chain array.elements.type array.shape) (length value) ≡ true
 
 -- the elements of an array are not encoded: a caller's codec refuses, or an offset or a length is too large for where it is written
-pub record IsRefused (chain : Chain) (elements : Elements) (shape : List ℕ) (payload : Payload) (cells : List Cell) (refuses : Chain → Elements → List ℕ → List Cell → Type 0) : Type 0 where
-  pub valid : IsValid elements.type payload (product shape) cells
-  pub fit : fits chain elements.type shape ≡ true
-  pub is : refuses chain elements shape cells
+pub record IsRefused (array : Coded) (payload : Payload) (cells : List Cell) (refuses : Chain → Elements → List ℕ → List Cell → Type 0) : Type 0 where
+  pub valid : IsValid array.elements.type payload (product array.shape) cells
+  pub fit : fits array.chain array.elements.type array.shape ≡ true
+  pub is : refuses array.chain array.elements array.shape cells
 
 -- what a chain makes of the elements of an array, or why it makes nothing
-abbrev pub Encodes : Chain → Bool → Elements → List ℕ → Payload → Result (Vec ℕ Global) CodecError → Type 0
-Encodes chain exact elements shape payload (Ok value) = (cells : List Cell) × IsEncoded chain exact elements shape payload cells value.items
-Encodes chain exact elements shape payload (Err error.Fit) = fits chain elements.type shape ≡ false
-Encodes chain exact elements shape payload (Err error.Codec) = (cells : List Cell) × IsRefused chain elements shape payload cells CodecRefuses
-Encodes chain exact elements shape payload (Err error.Size) = IsTooLarge elements.type (product shape) ⊎ ((cells : List Cell) × IsRefused chain elements shape payload cells PassesIndex)
-Encodes chain exact elements shape payload (Err error.Memory) = Unit {0}
-Encodes chain exact elements shape payload (Err e) = (fits chain elements.type shape ≡ true) × IsInvalid elements.type payload (product shape) e
+abbrev pub Encodes : Coded → Bool → Payload → Result (Vec ℕ Global) CodecError → Type 0
+Encodes array exact payload (Ok value) = (cells : List Cell) × IsEncoded array exact payload cells value.items
+Encodes array exact payload (Err error.Fit) = fits array.chain array.elements.type array.shape ≡ false
+Encodes array exact payload (Err error.Codec) = (cells : List Cell) × IsRefused array payload cells CodecRefuses
+Encodes array exact payload (Err error.Size) = IsTooLarge array.elements.type (product array.shape) ⊎ ((cells : List Cell) × IsRefused array payload cells PassesIndex)
+Encodes array exact payload (Err error.Memory) = Unit {0}
+Encodes array exact payload (Err e) = (fits array.chain array.elements.type array.shape ≡ true) × IsInvalid array.elements.type payload (product array.shape) e
 
 -- the elements of an array that a value is decoded to
-pub record IsDecoded (chain : Chain) (elements : Elements) (shape value : List ℕ) (payload : Payload) : Type 0 where
+pub record IsDecoded (array : Coded) (value : List ℕ) (payload : Payload) : Type 0 where
   pub cells : List Cell
-  pub fit : fits chain elements.type shape ≡ true
-  pub lists : cells_in elements.type payload ≡ Some cells
-  pub is : decoded chain elements shape value ≡ Some cells
+  pub fit : fits array.chain array.elements.type array.shape ≡ true
+  pub lists : cells_in array.elements.type payload ≡ Some cells
+  pub is : decoded array.chain array.elements array.shape value ≡ Some cells
 
 -- the elements of an array that a value is decoded to, or why there are none
-abbrev pub Decodes : Chain → Elements → List ℕ → List ℕ → Result ArrayBytes CodecError → Type 0
-Decodes chain elements shape value (Ok bytes) = IsDecoded chain elements shape value (payload_of bytes)
-Decodes chain elements shape value (Err error.Fit) = fits chain elements.type shape ≡ false
-Decodes chain elements shape value (Err error.Damage) = (fits chain elements.type shape ≡ true) × (decoded chain elements shape value ≡ None)
-Decodes chain elements shape value (Err error.Size) = IsTooLarge elements.type (product shape)
-Decodes chain elements shape value (Err error.Memory) = Unit {0}
-Decodes chain elements shape value (Err e) = ⊥
+abbrev pub Decodes : Coded → List ℕ → Result ArrayBytes CodecError → Type 0
+Decodes array value (Ok bytes) = IsDecoded array value (payload_of bytes)
+Decodes array value (Err error.Fit) = fits array.chain array.elements.type array.shape ≡ false
+Decodes array value (Err error.Damage) = (fits array.chain array.elements.type array.shape ≡ true) × (decoded array.chain array.elements array.shape value ≡ None)
+Decodes array value (Err error.Size) = IsTooLarge array.elements.type (product array.shape)
+Decodes array value (Err error.Memory) = Unit {0}
+Decodes array value (Err e) = ⊥
 
 -- the elements at the places that are asked for, of what is stored
-pub record IsPart (chain : Chain) (elements : Elements) (shape : List ℕ) (stored : Option (List ℕ)) (asked : Asked) (payload : Payload) : Type 0 where
+pub record IsPart (array : Coded) (stored : Option (List ℕ)) (asked : Asked) (payload : Payload) : Type 0 where
   pub cells : List Cell
-  pub fit : fits chain elements.type shape ≡ true
-  pub inside : are_inside shape asked ≡ true
-  pub lists : cells_in elements.type payload ≡ Some cells
-  pub is : chunk_part chain elements shape stored (numbers_asked shape asked) ≡ Some cells
+  pub fit : fits array.chain array.elements.type array.shape ≡ true
+  pub inside : are_inside array.shape asked ≡ true
+  pub lists : cells_in array.elements.type payload ≡ Some cells
+  pub is : chunk_part array.chain array.elements array.shape stored (numbers_asked array.shape asked) ≡ Some cells
 
 -- the elements at the places that are asked for, of what is stored, or why there are none
-abbrev pub DecodesPart : Chain → Elements → List ℕ → Option (List ℕ) → Asked → Result ArrayBytes CodecError → Type 0
-DecodesPart chain elements shape stored asked (Ok bytes) = IsPart chain elements shape stored asked (payload_of bytes)
-DecodesPart chain elements shape stored asked (Err error.Fit) = fits chain elements.type shape ≡ false
-DecodesPart chain elements shape stored asked (Err error.IncompatibleIndexer) = are_inside shape asked ≡ false
-DecodesPart chain elements shape stored asked (Err error.Damage) = (fits chain elements.type shape ≡ true) × (are_inside shape asked ≡ true) × (chunk_part chain elements shape stored (numbers_asked shape asked) ≡ None)
-DecodesPart chain elements shape stored asked (Err error.Size) = IsTooLarge elements.type (product shape)
-DecodesPart chain elements shape stored asked (Err error.Source) = Unit {0}
-DecodesPart chain elements shape stored asked (Err error.Memory) = Unit {0}
-DecodesPart chain elements shape stored asked (Err e) = ⊥
+abbrev pub DecodesPart : Coded → Option (List ℕ) → Asked → Result ArrayBytes CodecError → Type 0
+DecodesPart array stored asked (Ok bytes) = IsPart array stored asked (payload_of bytes)
+DecodesPart array stored asked (Err error.Fit) = fits array.chain array.elements.type array.shape ≡ false
+DecodesPart array stored asked (Err error.IncompatibleIndexer) = are_inside array.shape asked ≡ false
+DecodesPart array stored asked (Err error.Damage) =
+    (fits array.chain array.elements.type array.shape ≡ true) × (are_inside array.shape asked ≡ true) × (chunk_part array.chain array.elements array.shape stored (numbers_asked array.shape asked) ≡ None)
+DecodesPart array stored asked (Err error.Size) = IsTooLarge array.elements.type (product array.shape)
+DecodesPart array stored asked (Err error.Source) = Unit {0}
+DecodesPart array stored asked (Err error.Memory) = Unit {0}
+DecodesPart array stored asked (Err e) = ⊥
 
 -- ---- array to array codecs
 

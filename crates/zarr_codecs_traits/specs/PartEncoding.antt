@@ -15,6 +15,7 @@ use Rattle.zarr_codecs_arrays.specs.Outcomes.{IsInvalid, IsValid}
 use Rattle.zarr_codecs_arrays.specs.Values.{takes_all_bytes}
 use Rattle.zarr_codecs_arrays.specs.declared.error.CodecError.{CodecError}
 use Rattle.zarr_codecs_arrays.specs.declared.error.CodecError.TheVariants as error
+use Rattle.zarr_codecs_traits.specs.Arrays.{Coded}
 use Rattle.zarr_codecs_traits.specs.Indexers.{Asked, in_box, listed, shape_has}
 use Rattle.zarr_codecs_traits.specs.Patches.{Patch, any_too_far, patched, patches_in}
 use Rattle.zarr_codecs_traits.specs.declared.value_patch.ValuePatches.{ValuePatches}
@@ -55,29 +56,32 @@ cells_with_box shape other region given before =
     map (λ place. if is_in_box region.start region.shape place then get_or given (number_in region place) other else get_or before (ravel place shape) other) (places_of shape)
 
 -- ranges to be written into a value: it is then one of the elements of the array after those of a box were replaced
-pub record IsEncodedPart (chain : Chain) (exact : Bool) (elements : Elements) (shape : List ℕ) (region : Region) (payload : Payload) (cells : List Cell) (patches : List Patch) : Type 0 where
-  pub ranges : encodes_ranges chain ≡ true
-  pub valid : IsValid elements.type payload (product region.shape) cells
-  pub fit : fits chain elements.type shape ≡ true
-  pub inside : shape_has shape region ≡ true
+pub record IsEncodedPart (array : Coded) (exact : Bool) (region : Region) (payload : Payload) (patches : List Patch) : Type 0 where
+  pub cells : List Cell
+  pub ranges : encodes_ranges array.chain ≡ true
+  pub valid : IsValid array.elements.type payload (product region.shape) cells
+  pub fit : fits array.chain array.elements.type array.shape ≡ true
+  pub inside : shape_has array.shape region ≡ true
   pub near : any_too_far patches ≡ false
-  pub encodes : IsTrue exact → (value : List ℕ) (before : List Cell) → decoded chain elements shape value ≡ Some before → encoded chain elements shape (cells_with_box shape elements.fill region cells before) ≡ Some (patched value patches)
-  pub stands : is_lossless chain elements.type ≡ true → (value : List ℕ) (before : List Cell) → decoded chain elements shape value ≡ Some before → Stands chain elements shape (patched value patches) (cells_with_box shape elements.fill region cells before)
+  pub encodes : IsTrue exact → (value : List ℕ) (before : List Cell) → decoded array.chain array.elements array.shape value ≡ Some before
+      → encoded array.chain array.elements array.shape (cells_with_box array.shape array.elements.fill region cells before) ≡ Some (patched value patches)
+  pub stands : is_lossless array.chain array.elements.type ≡ true → (value : List ℕ) (before : List Cell) → decoded array.chain array.elements array.shape value ≡ Some before
+      → Stands array.chain array.elements array.shape (patched value patches) (cells_with_box array.shape array.elements.fill region cells before)
 
 -- the ranges to be written where the elements at the places of a box are replaced, or why there are none; the value is written whole exactly where the chain encodes no ranges
-abbrev pub EncodesPart : Chain → Bool → Elements → List ℕ → Region → Payload → Result (Option ValuePatches) CodecError → Type 0
-EncodesPart chain exact elements shape region payload (Ok (Some patches)) = (cells : List Cell) × IsEncodedPart chain exact elements shape region payload cells (patches_in patches)
-EncodesPart chain exact elements shape region payload (Ok None) = encodes_ranges chain ≡ false
-EncodesPart chain exact elements shape region payload (Err error.Fit) = fits chain elements.type shape ≡ false
-EncodesPart chain exact elements shape region payload (Err error.IncompatibleIndexer) = shape_has shape region ≡ false
-EncodesPart chain exact elements shape region payload (Err error.Size) = IsTooLarge elements.type (product shape)
-EncodesPart chain exact elements shape region payload (Err error.Memory) = Unit {0}
-EncodesPart chain exact elements shape region payload (Err e) = (fits chain elements.type shape ≡ true) × IsInvalid elements.type payload (product region.shape) e
+abbrev pub EncodesPart : Coded → Bool → Region → Payload → Result (Option ValuePatches) CodecError → Type 0
+EncodesPart array exact region payload (Ok (Some patches)) = IsEncodedPart array exact region payload (patches_in patches)
+EncodesPart array exact region payload (Ok None) = encodes_ranges array.chain ≡ false
+EncodesPart array exact region payload (Err error.Fit) = fits array.chain array.elements.type array.shape ≡ false
+EncodesPart array exact region payload (Err error.IncompatibleIndexer) = shape_has array.shape region ≡ false
+EncodesPart array exact region payload (Err error.Size) = IsTooLarge array.elements.type (product array.shape)
+EncodesPart array exact region payload (Err error.Memory) = Unit {0}
+EncodesPart array exact region payload (Err e) = (fits array.chain array.elements.type array.shape ≡ true) × IsInvalid array.elements.type payload (product region.shape) e
 
 -- the ranges to be written where the elements at the places that are asked for are replaced; where they are asked for by their numbers, the value is written whole
-abbrev pub EncodesAsked : Chain → Bool → Elements → List ℕ → Asked → Payload → Result (Option ValuePatches) CodecError → Type 0
-EncodesAsked chain exact elements shape (in_box region) payload result = EncodesPart chain exact elements shape region payload result
-EncodesAsked chain exact elements shape (listed numbers) payload (Ok None) = Unit {0}
-EncodesAsked chain exact elements shape (listed numbers) payload (Ok (Some patches)) = ⊥
-EncodesAsked chain exact elements shape (listed numbers) payload (Err error.Memory) = Unit {0}
-EncodesAsked chain exact elements shape (listed numbers) payload (Err e) = ⊥
+abbrev pub EncodesAsked : Coded → Bool → Asked → Payload → Result (Option ValuePatches) CodecError → Type 0
+EncodesAsked array exact (in_box region) payload result = EncodesPart array exact region payload result
+EncodesAsked array exact (listed numbers) payload (Ok None) = Unit {0}
+EncodesAsked array exact (listed numbers) payload (Ok (Some patches)) = ⊥
+EncodesAsked array exact (listed numbers) payload (Err error.Memory) = Unit {0}
+EncodesAsked array exact (listed numbers) payload (Err e) = ⊥

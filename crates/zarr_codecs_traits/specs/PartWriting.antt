@@ -11,7 +11,6 @@ use Rattle.zarr_codecs_meaning.specs.Encoding.{Pair, Piece, encoded, index_size,
 use Rattle.zarr_codecs_meaning.specs.Fits.{fits, is_lossless, is_plain}
 use Rattle.zarr_codecs_meaning.specs.Partial.{encodes_in_part}
 use Rattle.zarr_codecs_meaning.specs.Laws.{AreCells}
-use Rattle.zarr_codecs_meaning.specs.Payloads.{Payload}
 use Rattle.zarr_codecs_meaning.specs.Places.{Part, encoded_shape, gather, index_shape, parts_of, place_numbers, position_of, source_places}
 use Rattle.zarr_codecs_meaning.specs.Refusals.{CodecRefuses, IsMade, PassesIndex}
 use Rattle.zarr_codecs_meaning.specs.Standing.{ChunkStands, Tight}
@@ -20,7 +19,8 @@ use Rattle.zarr_sharding_changes.specs.Compactions.{compaction, damaged}
 use Rattle.zarr_codecs_arrays.specs.Outcomes.{IsInvalid, IsValid}
 use Rattle.zarr_codecs_arrays.specs.declared.error.CodecError.{CodecError}
 use Rattle.zarr_codecs_arrays.specs.declared.error.CodecError.TheVariants as error
-use Rattle.zarr_codecs_traits.specs.Indexers.{Asked, are_inside, numbers_asked, put}
+use Rattle.zarr_codecs_traits.specs.Arrays.{Coded, Update}
+use Rattle.zarr_codecs_traits.specs.Indexers.{are_inside, numbers_asked, put}
 use Rattle.zarr_codecs_traits.specs.Writes.{accepted_after}
 
 -- ---- what is stored
@@ -34,8 +34,8 @@ abbrev pub only_cell : Cell → Option (List Cell) → Cell
 only_cell other read = get_or (unwrap_or read []) 0 other
 
 -- the cells of an array after new ones were put at the places with these numbers: elsewhere what is stored is read, and where that can't be, the fill value stands
-abbrev pub cells_after : Chain → Elements → List ℕ → Option (List ℕ) → List ℕ → List Cell → List Cell
-cells_after chain elements shape stored numbers cells = put numbers cells (map (only_cell elements.fill) (cells_shown chain elements shape stored))
+abbrev pub cells_after : Coded → Option (List ℕ) → List ℕ → List Cell → List Cell
+cells_after array stored numbers cells = put numbers cells (map (only_cell array.elements.fill) (cells_shown array.chain array.elements array.shape stored))
 
 -- what is stored for cells, each slice of a shard as encoding writes it: no value for the fill value alone
 abbrev pub ChunkTight : Chain → Elements → List ℕ → Option (List ℕ) → List Cell → Type 0
@@ -74,24 +74,32 @@ abbrev pub IsPlaced : Chain → List ℕ → Option (List ℕ) → Type 0
 IsPlaced chain shape stored = MatchOption stored (Unit {0}) (λ value. encodes_in_part chain ≡ true → compaction chain shape value ≡ damaged → ⊥)
 
 -- new cells were put at the places that are asked for: what is stored for the array changed so, whatever was stored
-pub record IsEncodedInto (chain : Chain) (exact : Bool) (elements : Elements) (shape : List ℕ) (asked : Asked) (payload : Payload) (cells : List Cell) (old new : Option (List ℕ)) : Type 0 where
-  pub valid : IsValid elements.type payload (length (numbers_asked shape asked)) cells
-  pub fit : fits chain elements.type shape ≡ true
-  pub inside : are_inside shape asked ≡ true
+pub record IsEncodedInto (array : Coded) (exact : Bool) (update : Update) (cells : List Cell) (new : Option (List ℕ)) : Type 0 where
+  pub valid : IsValid array.elements.type update.payload (length (numbers_asked array.shape update.asked)) cells
+  pub fit : fits array.chain array.elements.type array.shape ≡ true
+  pub inside : are_inside array.shape update.asked ≡ true
   -- a value that can't be read at all is not written over
-  pub opened : MatchOption old (Unit {0}) (λ value. opens chain elements shape value ≡ true)
+  pub opened : MatchOption update.stored (Unit {0}) (λ value. opens array.chain array.elements array.shape value ≡ true)
   -- nor over a subchunk that isn't decoded, where one of the places lies in it
-  pub none_lost : MatchOption old (Unit {0}) (λ value. ¬ MeetsLost chain elements shape value (numbers_asked shape asked))
+  pub none_lost : MatchOption update.stored (Unit {0}) (λ value. ¬ MeetsLost array.chain array.elements array.shape value (numbers_asked array.shape update.asked))
   -- what stood for cells stands for the updated ones
-  pub stands : is_lossless chain elements.type ≡ true → OnCells elements shape (λ before. ChunkStands chain elements shape old before → ChunkStands chain elements shape new (put (numbers_asked shape asked) cells before))
-  pub tight : IsTrue exact → is_lossless chain elements.type ≡ true → OnCells elements shape (λ before. ChunkTight chain elements shape old before → ChunkTight chain elements shape new (put (numbers_asked shape asked) cells before))
+  pub stands : is_lossless array.chain array.elements.type ≡ true → OnCells array.elements array.shape (λ before. ChunkStands array.chain array.elements array.shape update.stored before
+      → ChunkStands array.chain array.elements array.shape new (put (numbers_asked array.shape update.asked) cells before))
+  pub tight : IsTrue exact → is_lossless array.chain array.elements.type ≡ true → OnCells array.elements array.shape (λ before. ChunkTight array.chain array.elements array.shape update.stored before
+      → ChunkTight array.chain array.elements array.shape new (put (numbers_asked array.shape update.asked) cells before))
   -- a shard that is all fill is taken away
-  pub absent : is_plain chain ≡ false → is_lossless chain elements.type ≡ true → OnCells elements shape (λ before. ChunkStands chain elements shape old before → is_fill elements.fill (put (numbers_asked shape asked) cells before) ≡ true → new ≡ None)
+  pub absent : is_plain array.chain ≡ false → is_lossless array.chain array.elements.type ≡ true → OnCells array.elements array.shape (λ before. ChunkStands array.chain array.elements array.shape update.stored before
+      → is_fill array.elements.fill (put (numbers_asked array.shape update.asked) cells before) ≡ true → new ≡ None)
   -- without shards what is stored is the updated cells encoded, also those of a chain that drops bits; all fill keeps its value
-  pub encodes : IsTrue exact → is_plain chain ≡ true → OnCells elements shape (λ before. chunk_decoded chain elements shape old ≡ Some before
-      → (value : List ℕ) × (new ≡ Some value) × (encoded chain elements shape (put (numbers_asked shape asked) cells before) ≡ Some value))
+  pub encodes : IsTrue exact → is_plain array.chain ≡ true → OnCells array.elements array.shape (λ before. chunk_decoded array.chain array.elements array.shape update.stored ≡ Some before
+      → (value : List ℕ) × (new ≡ Some value) × (encoded array.chain array.elements array.shape (put (numbers_asked array.shape update.asked) cells before) ≡ Some value))
   -- each other place is read as before, also where another one can't be
-  pub shows : is_lossless chain elements.type ≡ true → cells_shown chain elements shape new ≡ put (numbers_asked shape asked) (map (λ cell. Some (cell ∷ [])) cells) (cells_shown chain elements shape old)
+  pub shows : is_lossless array.chain array.elements.type ≡ true → cells_shown array.chain array.elements array.shape new
+      ≡ put (numbers_asked array.shape update.asked) (map (λ cell. Some (cell ∷ [])) cells) (cells_shown array.chain array.elements array.shape update.stored)
+
+-- new elements were put at the places that are asked for
+abbrev pub EncodesInto : Coded → Bool → Update → Option (List ℕ) → Type 0
+EncodesInto array exact update new = (cells : List Cell) × IsEncodedInto array exact update cells new
 
 -- ---- why nothing is written
 
@@ -115,12 +123,12 @@ PassesLength (sharded subchunk inner index location) elements shape stored cells
     × (2 ^ 63 ≤ option_map_or length stored (index_size index (index_shape shape subchunk)) + length (joined_slices slices))
 
 -- valid elements for places of an array that the chain suits are refused, by the cells that the array would have
-pub record IsRefusedInto (chain : Chain) (elements : Elements) (shape : List ℕ) (asked : Asked) (payload : Payload) (stored : Option (List ℕ)) (refuses : List Cell → Type 0) : Type 0 where
+pub record IsRefusedInto (array : Coded) (update : Update) (refuses : List Cell → Type 0) : Type 0 where
   pub cells : List Cell
-  pub valid : IsValid elements.type payload (length (numbers_asked shape asked)) cells
-  pub fit : fits chain elements.type shape ≡ true
-  pub inside : are_inside shape asked ≡ true
-  pub is : refuses (cells_after chain elements shape stored (numbers_asked shape asked) cells)
+  pub valid : IsValid array.elements.type update.payload (length (numbers_asked array.shape update.asked)) cells
+  pub fit : fits array.chain array.elements.type array.shape ≡ true
+  pub inside : are_inside array.shape update.asked ≡ true
+  pub is : refuses (cells_after array update.stored (numbers_asked array.shape update.asked) cells)
 
 -- a value that can be written in part isn't, at the places with these numbers: it can't be read at all, or the write meets in it what can't be decoded, or a present slice of a shard lies outside the shard's data part
 abbrev pub StopsPart : Chain → Elements → List ℕ → List ℕ → List ℕ → Type 0
@@ -131,38 +139,40 @@ abbrev pub IsDamaged : Chain → Elements → List ℕ → Option (List ℕ) →
 IsDamaged chain elements shape stored numbers = MatchOption stored ⊥ (λ value. MatchBool (encodes_in_part chain) (StopsPart chain elements shape value numbers) (decoded chain elements shape value ≡ None))
 
 -- what is stored can't be decoded, and, if the chain keeps every bit, would have to be: put behind it, the new slices of its shard would make 2^63 bytes or more
-abbrev pub HasNoRoom : Chain → Elements → List ℕ → Asked → Payload → Option (List ℕ) → Type 0
-HasNoRoom chain elements shape asked payload stored =
-    (chunk_decoded chain elements shape stored ≡ None) × (is_lossless chain elements.type ≡ true → IsRefusedInto chain elements shape asked payload stored (PassesLength chain elements shape stored))
+abbrev pub HasNoRoom : Coded → Update → Type 0
+HasNoRoom array update =
+    (chunk_decoded array.chain array.elements array.shape update.stored ≡ None)
+    × (is_lossless array.chain array.elements.type ≡ true → IsRefusedInto array update (PassesLength array.chain array.elements array.shape update.stored))
 
--- why new elements are not put at the places that are asked for, with this for damage
-abbrev pub NotPut : {A : Type 0} → Type 0 → Chain → Elements → List ℕ → Asked → Payload → Option (List ℕ) → Result A CodecError → Type 0
-NotPut damage chain elements shape asked payload stored (Ok value) = Unit {0}
-NotPut damage chain elements shape asked payload stored (Err error.Fit) = fits chain elements.type shape ≡ false
-NotPut damage chain elements shape asked payload stored (Err error.IncompatibleIndexer) = are_inside shape asked ≡ false
-NotPut damage chain elements shape asked payload stored (Err error.Size) =
-    IsTooLarge elements.type (product shape) ⊎ IsRefusedInto chain elements shape asked payload stored (λ after. PassesIndex chain elements shape after ⊎ PassesLength chain elements shape stored after)
-NotPut damage chain elements shape asked payload stored (Err error.Codec) = IsRefusedInto chain elements shape asked payload stored (CodecRefuses chain elements shape)
-NotPut damage chain elements shape asked payload stored (Err error.Damage) = (fits chain elements.type shape ≡ true) × damage
-NotPut damage chain elements shape asked payload stored (Err error.Source) = Unit {0}
-NotPut damage chain elements shape asked payload stored (Err error.Memory) = Unit {0}
-NotPut damage chain elements shape asked payload stored (Err e) = (fits chain elements.type shape ≡ true) × IsInvalid elements.type payload (length (numbers_asked shape asked)) e
+-- why new elements are not put at the places that are asked for, with this for damage, and this for a codec that refuses the cells that the array would have
+abbrev pub NotPut : {A : Type 0} → Type 0 → (List Cell → Type 0) → Coded → Update → Result A CodecError → Type 0
+NotPut damage refuses array update (Ok value) = Unit {0}
+NotPut damage refuses array update (Err error.Fit) = fits array.chain array.elements.type array.shape ≡ false
+NotPut damage refuses array update (Err error.IncompatibleIndexer) = are_inside array.shape update.asked ≡ false
+NotPut damage refuses array update (Err error.Size) =
+    IsTooLarge array.elements.type (product array.shape) ⊎ IsRefusedInto array update (λ after. PassesIndex array.chain array.elements array.shape after ⊎ PassesLength array.chain array.elements array.shape update.stored after)
+NotPut damage refuses array update (Err error.Codec) = IsRefusedInto array update refuses
+NotPut damage refuses array update (Err error.Damage) = (fits array.chain array.elements.type array.shape ≡ true) × damage
+NotPut damage refuses array update (Err error.Source) = Unit {0}
+NotPut damage refuses array update (Err error.Memory) = Unit {0}
+NotPut damage refuses array update (Err e) = (fits array.chain array.elements.type array.shape ≡ true) × IsInvalid array.elements.type update.payload (length (numbers_asked array.shape update.asked)) e
 
 -- what is stored stops a write of these elements
-abbrev pub StopsWrite : Chain → Elements → List ℕ → Asked → Payload → Option (List ℕ) → Type 0
-StopsWrite chain elements shape asked payload stored = IsDamaged chain elements shape stored (numbers_asked shape asked) ⊎ HasNoRoom chain elements shape asked payload stored
+abbrev pub StopsWrite : Coded → Update → Type 0
+StopsWrite array update = IsDamaged array.chain array.elements array.shape update.stored (numbers_asked array.shape update.asked) ⊎ HasNoRoom array update
 
 -- why new elements are not put at the places that are asked for
-abbrev pub NotEncodedInto : {A : Type 0} → Chain → Elements → List ℕ → Asked → Payload → Option (List ℕ) → Result A CodecError → Type 0
-NotEncodedInto chain elements shape asked payload stored result = NotPut (StopsWrite chain elements shape asked payload stored) chain elements shape asked payload stored result
+abbrev pub NotEncodedInto : {A : Type 0} → Coded → Update → Result A CodecError → Type 0
+NotEncodedInto array update result = NotPut (StopsWrite array update) (CodecRefuses array.chain array.elements array.shape) array update result
 
 -- the same where the value is decoded whole and written anew: it is damaged where it isn't decoded
-abbrev pub NotEncodedWhole : {A : Type 0} → Chain → Elements → List ℕ → Asked → Payload → Option (List ℕ) → Result A CodecError → Type 0
-NotEncodedWhole chain elements shape asked payload stored result = NotPut (chunk_decoded chain elements shape stored ≡ None) chain elements shape asked payload stored result
+abbrev pub NotEncodedWhole : {A : Type 0} → Coded → Update → Result A CodecError → Type 0
+NotEncodedWhole array update result =
+    NotPut (chunk_decoded array.chain array.elements array.shape update.stored ≡ None) (CodecRefuses array.chain array.elements array.shape) array update result
 
 -- the same before anything is read, which tells of no damage
-abbrev pub NotTaken : {A : Type 0} → Chain → Elements → List ℕ → Asked → Payload → Option (List ℕ) → Result A CodecError → Type 0
-NotTaken chain elements shape asked payload stored result = NotPut ⊥ chain elements shape asked payload stored result
+abbrev pub NotTaken : {A : Type 0} → Coded → Update → Result A CodecError → Type 0
+NotTaken array update result = NotPut ⊥ (CodecRefuses array.chain array.elements array.shape) array update result
 
 -- at most one writing call was accepted, and none where the call is refused (a count stands still at 2^128 - 1)
 abbrev pub WritesOnce : {A : Type 0} → ℕ → ℕ → Result A CodecError → Type 0

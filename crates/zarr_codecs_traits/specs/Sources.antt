@@ -49,9 +49,15 @@ refused_after count (Ok value) = count
 refused_after count (Err error.Source) = min (count + 1) (2 ^ 128 - 1)
 refused_after count (Err e) = count
 
--- whether the second is the count of refused calls after elements were to be read and put into a target: as the answer tells, so that it rose where the source refused; or as it was, where elements were read that the target doesn't take
+-- whether the second is the count of refused calls after a read: as before where it is done, and one more where the source refused. Any other refusal may come after a call that was refused: of what was read before, the first that isn't decoded decides
+abbrev pub CountsRead : {A : Type 0} → ℕ → Result A CodecError → ℕ → Type 0
+CountsRead count (Ok value) after = after ≡ count
+CountsRead count (Err error.Source) after = after ≡ min (count + 1) (2 ^ 128 - 1)
+CountsRead count (Err e) after = (after ≡ count) ⊎ (after ≡ min (count + 1) (2 ^ 128 - 1))
+
+-- whether the second is the count of refused calls after elements were to be read and put into a target: as a read counts them; or as it was, where elements were read that the target doesn't take
 abbrev pub IsRefusedAfter : {A : Type 0} → (Payload → Type 0) → (Payload → CodecError → Type 0) → ℕ → Result A CodecError → ℕ → Type 0
-IsRefusedAfter reads misfits count result after = (after ≡ refused_after count result) ⊎ ((after ≡ count) × IfErr result (λ e. (payload : Payload) × reads payload × misfits payload e))
+IsRefusedAfter reads misfits count result after = CountsRead count result after ⊎ ((after ≡ count) × IfErr result (λ e. (payload : Payload) × reads payload × misfits payload e))
 
 -- how many bytes the parts have together that were given, or 0 where there are none
 abbrev pub parts_length : Option (Vec (Vec ℕ Global) Global) → ℕ

@@ -5,11 +5,10 @@ use Rattle.zarr_grids_boxes.specs.Cuts.{IsAtMost, ends}
 use Rattle.zarr_grids_boxes.specs.Subsets.{region_of}
 use Rattle.zarr_grids_boxes.specs.declared.subset.ArraySubset.{ArraySubset}
 use Rattle.zarr_grids_overlay.specs.Overlays.{IsOverlaid}
-use Rattle.zarr_codecs_meaning.specs.Chains.{Chain}
 use Rattle.zarr_codecs_meaning.specs.Payloads.{Payload, fixed, variable, optional}
-use Rattle.zarr_codecs_meaning.specs.Types.{Elements}
 use Rattle.zarr_codecs_arrays.specs.declared.error.CodecError.{CodecError}
 use Rattle.zarr_codecs_arrays.specs.declared.error.CodecError.TheVariants as error
+use Rattle.zarr_codecs_traits.specs.Arrays.{Coded}
 use Rattle.zarr_codecs_traits.specs.Outcomes.{Decodes, IsDecoded}
 use Rattle.zarr_codecs_traits.specs.declared.target_bytes.TargetBytes.{TargetBytes}
 
@@ -82,10 +81,10 @@ IsNotOptional (optional values present) e = ⊥
 -- ---- values that are decoded into a target
 
 -- the elements of an array that a value is decoded to were put over those of a target of so many
-pub record IsDecodedInto (chain : Chain) (elements : Elements) (shape value : List ℕ) (count : ℕ) (puts : Payload → Type 0) : Type 0 where
+pub record IsDecodedInto (array : Coded) (value : List ℕ) (count : ℕ) (puts : Payload → Type 0) : Type 0 where
   pub payload : Payload
-  pub is : IsDecoded chain elements shape value payload
-  pub many : count ≡ product shape
+  pub is : IsDecoded array value payload
+  pub many : count ≡ product array.shape
   pub put : puts payload
 
 -- an array is refused since a target has more or fewer elements
@@ -98,6 +97,6 @@ abbrev pub IsNotPut : List ℕ → ℕ → (CodecError → Type 0) → CodecErro
 IsNotPut shape count misfits e = ((e ≡ error.Size) × (2 ^ 63 ≤ product shape)) ⊎ (HasOtherCount count shape e ⊎ misfits e)
 
 -- why a value is not decoded into a target: it isn't decoded, or the target takes other elements than those that it is decoded to
-abbrev pub NotDecodedInto : Chain → Elements → List ℕ → List ℕ → ℕ → (Payload → CodecError → Type 0) → CodecError → Type 0
-NotDecodedInto chain elements shape value count misfits e =
-    Decodes chain elements shape value (Err e) ⊎ (HasOtherCount count shape e ⊎ ((payload : Payload) × IsDecoded chain elements shape value payload × misfits payload e))
+abbrev pub NotDecodedInto : Coded → List ℕ → ℕ → (Payload → CodecError → Type 0) → CodecError → Type 0
+NotDecodedInto array value count misfits e =
+    Decodes array value (Err e) ⊎ (HasOtherCount count array.shape e ⊎ ((payload : Payload) × IsDecoded array value payload × misfits payload e))

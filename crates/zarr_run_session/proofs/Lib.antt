@@ -1,4 +1,3 @@
-mod Crossing
 mod Alike
 pub mod CompactSteps
 mod Bounds

@@ -4,3 +4,4 @@ pub mod ShardsNest
 pub mod Reading
 pub mod Written
 pub mod CopiedPoints
+pub mod Crossing

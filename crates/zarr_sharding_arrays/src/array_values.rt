@@ -2,7 +2,6 @@
 use crate::array_chain::ArrayChain;
 use std::alloc::{AllocError, Global};
 use zarr_codecs_arrays::{ArrayBytes, CodecError, Elements};
-use zarr_codecs_options::CodecOptions;
 use zarr_codecs_traits::{
     ArrayPart, ArrayToBytesCodecTraits, BytesPartialDecoderTraits, BytesPartialEncoderTraits,
     BytesRepresentation, BytesToBytesCodecTraits, ValuePatches,
@@ -36,33 +35,31 @@ impl<B: BytesToBytesCodecTraits> ArrayToBytesCodecTraits for ArrayChain<B> {
         }
     }
 
-    fn encode(
+    fn encode_in_order(
         &self,
         alloc: Global,
         bytes: ArrayBytes,
         elements: &Elements,
         shape: &[u64],
-        options: &CodecOptions,
     ) -> Result<Vec<u8>, CodecError> {
         match self {
-            ArrayChain::Plain(chain) => chain.encode(alloc, bytes, elements, shape, options),
-            ArrayChain::Sharded(chain) => chain.encode(alloc, bytes, elements, shape, options),
-            ArrayChain::Nested(chain) => chain.encode(alloc, bytes, elements, shape, options),
+            ArrayChain::Plain(chain) => chain.encode_in_order(alloc, bytes, elements, shape),
+            ArrayChain::Sharded(chain) => chain.encode_in_order(alloc, bytes, elements, shape),
+            ArrayChain::Nested(chain) => chain.encode_in_order(alloc, bytes, elements, shape),
         }
     }
 
-    fn decode(
+    fn decode_in_order(
         &self,
         alloc: Global,
         value: Vec<u8>,
         elements: &Elements,
         shape: &[u64],
-        options: &CodecOptions,
     ) -> Result<ArrayBytes, CodecError> {
         match self {
-            ArrayChain::Plain(chain) => chain.decode(alloc, value, elements, shape, options),
-            ArrayChain::Sharded(chain) => chain.decode(alloc, value, elements, shape, options),
-            ArrayChain::Nested(chain) => chain.decode(alloc, value, elements, shape, options),
+            ArrayChain::Plain(chain) => chain.decode_in_order(alloc, value, elements, shape),
+            ArrayChain::Sharded(chain) => chain.decode_in_order(alloc, value, elements, shape),
+            ArrayChain::Nested(chain) => chain.decode_in_order(alloc, value, elements, shape),
         }
     }
 
@@ -115,17 +112,16 @@ impl<B: BytesToBytesCodecTraits> ArrayToBytesCodecTraits for ArrayChain<B> {
         }
     }
 
-    fn partial_decode<D: BytesPartialDecoderTraits>(
+    fn partial_decode_in_order<D: BytesPartialDecoderTraits>(
         &self,
         alloc: Global,
         source: &mut D,
         part: ArrayPart<'_>,
-        options: &CodecOptions,
     ) -> Result<ArrayBytes, CodecError> {
         match self {
-            ArrayChain::Plain(chain) => chain.partial_decode(alloc, source, part, options),
-            ArrayChain::Sharded(chain) => chain.partial_decode(alloc, source, part, options),
-            ArrayChain::Nested(chain) => chain.partial_decode(alloc, source, part, options),
+            ArrayChain::Plain(chain) => chain.partial_decode_in_order(alloc, source, part),
+            ArrayChain::Sharded(chain) => chain.partial_decode_in_order(alloc, source, part),
+            ArrayChain::Nested(chain) => chain.partial_decode_in_order(alloc, source, part),
         }
     }
 
@@ -142,42 +138,39 @@ impl<B: BytesToBytesCodecTraits> ArrayToBytesCodecTraits for ArrayChain<B> {
         alloc: Global,
         bytes: ArrayBytes,
         part: ArrayPart<'_>,
-        options: &CodecOptions,
     ) -> Result<Option<ValuePatches>, CodecError> {
         match self {
-            ArrayChain::Plain(chain) => chain.encode_patches(alloc, bytes, part, options),
-            ArrayChain::Sharded(chain) => chain.encode_patches(alloc, bytes, part, options),
-            ArrayChain::Nested(chain) => chain.encode_patches(alloc, bytes, part, options),
+            ArrayChain::Plain(chain) => chain.encode_patches(alloc, bytes, part),
+            ArrayChain::Sharded(chain) => chain.encode_patches(alloc, bytes, part),
+            ArrayChain::Nested(chain) => chain.encode_patches(alloc, bytes, part),
         }
     }
 
-    fn partial_encode<E: BytesPartialEncoderTraits>(
+    fn partial_encode_in_order<E: BytesPartialEncoderTraits>(
         &self,
         alloc: Global,
         source: &mut E,
         bytes: ArrayBytes,
         part: ArrayPart<'_>,
-        options: &CodecOptions,
     ) -> Result<(), CodecError> {
         match self {
-            ArrayChain::Plain(chain) => chain.partial_encode(alloc, source, bytes, part, options),
-            ArrayChain::Sharded(chain) => chain.partial_encode(alloc, source, bytes, part, options),
-            ArrayChain::Nested(chain) => chain.partial_encode(alloc, source, bytes, part, options),
+            ArrayChain::Plain(chain) => chain.partial_encode_in_order(alloc, source, bytes, part),
+            ArrayChain::Sharded(chain) => chain.partial_encode_in_order(alloc, source, bytes, part),
+            ArrayChain::Nested(chain) => chain.partial_encode_in_order(alloc, source, bytes, part),
         }
     }
 
-    fn compact(
+    fn compact_in_order(
         &self,
         alloc: Global,
         value: &[u8],
         elements: &Elements,
         shape: &[u64],
-        options: &CodecOptions,
     ) -> Result<Option<Vec<u8>>, CodecError> {
         match self {
-            ArrayChain::Plain(chain) => chain.compact(alloc, value, elements, shape, options),
-            ArrayChain::Sharded(chain) => chain.compact(alloc, value, elements, shape, options),
-            ArrayChain::Nested(chain) => chain.compact(alloc, value, elements, shape, options),
+            ArrayChain::Plain(chain) => chain.compact_in_order(alloc, value, elements, shape),
+            ArrayChain::Sharded(chain) => chain.compact_in_order(alloc, value, elements, shape),
+            ArrayChain::Nested(chain) => chain.compact_in_order(alloc, value, elements, shape),
         }
     }
 

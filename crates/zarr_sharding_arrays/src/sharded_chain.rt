@@ -15,7 +15,6 @@ use zarr_codecs_around::whole_arrays::{
 use zarr_codecs_array_to_array::ArrayToArrayCodec;
 use zarr_codecs_arrays::{ArrayBytes, CodecError, Elements};
 use zarr_codecs_chains::CodecChain;
-use zarr_codecs_options::CodecOptions;
 use zarr_codecs_regions::encode_whole;
 use zarr_codecs_traits::{
     ArrayPart, ArrayToBytesCodecTraits, BytesPartialDecoderTraits, BytesPartialEncoderTraits,
@@ -98,30 +97,28 @@ impl<B: BytesToBytesCodecTraits, I: InnerCodec> ArrayToBytesCodecTraits for Shar
         fits_after(&self.others, alloc, codecs, data_type, shape)
     }
 
-    fn encode(
+    fn encode_in_order(
         &self,
         alloc: Global,
         bytes: ArrayBytes,
         elements: &Elements,
         shape: &[u64],
-        options: &CodecOptions,
     ) -> Result<Vec<u8>, CodecError> {
         let codecs = self.array_to_array.as_slice();
         let array = WholeArray { elements, shape };
-        encode_after(&self.others, alloc, codecs, bytes, array, options)
+        encode_after(&self.others, alloc, codecs, bytes, array)
     }
 
-    fn decode(
+    fn decode_in_order(
         &self,
         alloc: Global,
         value: Vec<u8>,
         elements: &Elements,
         shape: &[u64],
-        options: &CodecOptions,
     ) -> Result<ArrayBytes, CodecError> {
         let codecs = self.array_to_array.as_slice();
         let array = WholeArray { elements, shape };
-        decode_after(&self.others, alloc, codecs, value, array, options)
+        decode_after(&self.others, alloc, codecs, value, array)
     }
 
     fn encoded_representation(
@@ -157,15 +154,14 @@ impl<B: BytesToBytesCodecTraits, I: InnerCodec> ArrayToBytesCodecTraits for Shar
         shape.to_vec(alloc)
     }
 
-    fn partial_decode<D: BytesPartialDecoderTraits>(
+    fn partial_decode_in_order<D: BytesPartialDecoderTraits>(
         &self,
         alloc: Global,
         source: &mut D,
         part: ArrayPart<'_>,
-        options: &CodecOptions,
     ) -> Result<ArrayBytes, CodecError> {
         if self.array_to_array.is_empty() {
-            return self.others.partial_decode(alloc, source, part, options);
+            return self.others.partial_decode_in_order(alloc, source, part);
         }
         let array_to_array = self.array_to_array.as_slice();
         let rest = &self.others;
@@ -173,7 +169,7 @@ impl<B: BytesToBytesCodecTraits, I: InnerCodec> ArrayToBytesCodecTraits for Shar
             array_to_array,
             rest,
         };
-        decode_part_after(chain, alloc, source, part, options)
+        decode_part_after(chain, alloc, source, part)
     }
 
     fn takes_patches(&self, _: &DataType) -> bool {
@@ -185,51 +181,48 @@ impl<B: BytesToBytesCodecTraits, I: InnerCodec> ArrayToBytesCodecTraits for Shar
         _: Global,
         _: ArrayBytes,
         _: ArrayPart<'_>,
-        _: &CodecOptions,
     ) -> Result<Option<ValuePatches>, CodecError> {
         Ok(None)
     }
 
-    fn partial_encode<E: BytesPartialEncoderTraits>(
+    fn partial_encode_in_order<E: BytesPartialEncoderTraits>(
         &self,
         alloc: Global,
         source: &mut E,
         bytes: ArrayBytes,
         part: ArrayPart<'_>,
-        options: &CodecOptions,
     ) -> Result<(), CodecError> {
         if self.array_to_array.is_empty() {
             return self
                 .others
-                .partial_encode(alloc, source, bytes, part, options);
+                .partial_encode_in_order(alloc, source, bytes, part);
         }
         let array_to_array = self.array_to_array.as_slice();
         if has_reshape(array_to_array) {
-            return encode_whole(self, alloc, source, bytes, part, options);
+            return encode_whole(self, alloc, source, bytes, part);
         }
         let rest = &self.others;
         let chain = AfterArrayCodecs {
             array_to_array,
             rest,
         };
-        encode_part_after(chain, alloc, source, bytes, part, options)
+        encode_part_after(chain, alloc, source, bytes, part)
     }
 
-    fn compact(
+    fn compact_in_order(
         &self,
         alloc: Global,
         value: &[u8],
         elements: &Elements,
         shape: &[u64],
-        options: &CodecOptions,
     ) -> Result<Option<Vec<u8>>, CodecError> {
         let codecs = self.array_to_array.as_slice();
         let array = WholeArray { elements, shape };
         if self.others.bytes_to_bytes_codecs().is_empty() {
             let shard = self.others.array_to_bytes_codec();
-            return compact_after(shard, alloc, codecs, value, array, options);
+            return compact_after(shard, alloc, codecs, value, array);
         }
-        compact_after(&self.others, alloc, codecs, value, array, options)
+        compact_after(&self.others, alloc, codecs, value, array)
     }
 
     fn try_clone(&self, alloc: Global) -> Result<ShardedChain<B, I>, AllocError> {

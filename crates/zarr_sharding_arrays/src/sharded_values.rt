@@ -5,7 +5,6 @@ use std::alloc::{AllocError, Global};
 use zarr_codecs_around::ThenBytes;
 use zarr_codecs_around::array_metadata::array_copies;
 use zarr_codecs_arrays::{ArrayBytes, CodecError, Elements};
-use zarr_codecs_options::CodecOptions;
 use zarr_codecs_regions::WholeValues;
 use zarr_codecs_traits::{ArrayToBytesCodecTraits, BytesToBytesCodecTraits};
 use zarr_codecs_types::DataType;
@@ -33,9 +32,8 @@ impl<B: BytesToBytesCodecTraits, I: InnerCodec> WholeValues for ShardedChain<B, 
         bytes: ArrayBytes,
         elements: &Elements,
         shape: &[u64],
-        options: &CodecOptions,
     ) -> Result<Vec<u8>, CodecError> {
-        self.encode(alloc, bytes, elements, shape, options)
+        self.encode_in_order(alloc, bytes, elements, shape)
     }
 
     fn decode_value(
@@ -44,9 +42,8 @@ impl<B: BytesToBytesCodecTraits, I: InnerCodec> WholeValues for ShardedChain<B, 
         value: Vec<u8>,
         elements: &Elements,
         shape: &[u64],
-        options: &CodecOptions,
     ) -> Result<ArrayBytes, CodecError> {
-        self.decode(alloc, value, elements, shape, options)
+        self.decode_in_order(alloc, value, elements, shape)
     }
 
     fn keeps_fill(&self) -> bool {

@@ -16,6 +16,7 @@ use Rattle.zarr_codecs_meaning.specs.Types.{Cell, Elements}
 use Rattle.zarr_codecs_meaning.proofs.Fitting.{fitted}
 use Rattle.zarr_codecs_meaning.proofs.Parts.{index_product}
 use Rattle.zarr_codecs_traits.specs.Indexers.{Asked, are_inside, numbers_asked}
+use Rattle.zarr_codecs_traits.specs.Arrays.{coded}
 use Rattle.zarr_codecs_traits.specs.Outcomes.{DecodesPart}
 use Rattle.zarr_sharding_codec.specs.PartWriting.{IsOf}
 use Rattle.zarr_sharding_codec.specs.Reading.{IsTotalOf, ListsRead, place_decoded, shard_cell, shard_cells}
@@ -53,7 +54,7 @@ filled_cells inner elements shape subchunk pairs (n ∷ ns) cuts many absent bel
 module _ (s : ShardOf) (numbers : List ℕ) (asked : Asked) (fit : fits (chain_of s) s.elements.type s.shape ≡ true) (inside : are_inside s.shape asked ≡ true) (are : numbers ≡ numbers_asked s.shape asked)
     (below : list_all (λ n. nat_lt n (product s.shape)) numbers ≡ true) where
   nothing_read : (pairs : List Pair) (result : Result ArrayBytes CodecError) → shard_cells s.inner s.elements s.shape s.subchunk [] pairs numbers ≡ Some (map (λ n. s.elements.fill) numbers)
-      → ListsRead s.elements s.shape (shard_cells s.inner s.elements s.shape s.subchunk [] pairs numbers) result → DecodesPart (chain_of s) s.elements s.shape None asked result
+      → ListsRead s.elements s.shape (shard_cells s.inner s.elements s.shape s.subchunk [] pairs numbers) result → DecodesPart (coded (chain_of s) s.elements s.shape) None asked result
   nothing_read pairs (Ok bytes) filled read = record {
     cells = read.cells;
     fit = fit;
@@ -68,7 +69,7 @@ module _ (s : ShardOf) (numbers : List ℕ) (asked : Asked) (fit : fits (chain_o
   nothing_read pairs (Err e) filled read = absurd read
 
   by_contents : (contents : Option (List ℕ)) (pairs : List Pair) (end : ℕ) (result : Result ArrayBytes CodecError) → length pairs ≡ length (parts_of s.shape s.subchunk) → IsTold s (held_as contents pairs end)
-      → ListsRead s.elements s.shape (shard_cells s.inner s.elements s.shape s.subchunk (unwrap_or contents []) pairs numbers) result → DecodesPart (chain_of s) s.elements s.shape contents asked result
+      → ListsRead s.elements s.shape (shard_cells s.inner s.elements s.shape s.subchunk (unwrap_or contents []) pairs numbers) result → DecodesPart (coded (chain_of s) s.elements s.shape) contents asked result
   by_contents None pairs end result count told read =
       let absent : (k : ℕ) → get_or pairs k absent_pair ≡ absent_pair = λ k. ap (λ (ps : List Pair). get_or ps k absent_pair) told.0 ∙ absent_at (length (parts_of s.shape s.subchunk)) k in
       let cuts = (fitted s.subchunk s.inner s.index s.location s.elements s.shape fit).cuts in
@@ -77,5 +78,5 @@ module _ (s : ShardOf) (numbers : List ℕ) (asked : Asked) (fit : fits (chain_o
       part_found s.subchunk s.inner s.index s.location s.elements s.shape value pairs numbers asked result fit inside are (record { is = told.0; many = index_product s.shape s.subchunk ∙ ap (λ n. 2 * n) (sym count) }) read
 
   pub part_read_back : (held : Held) (result : Result ArrayBytes CodecError) → length held.pairs ≡ length (parts_of s.shape s.subchunk) → IsTold s held
-      → ListsRead s.elements s.shape (shard_cells s.inner s.elements s.shape s.subchunk (unwrap_or held.contents []) held.pairs numbers) result → DecodesPart (chain_of s) s.elements s.shape held.contents asked result
+      → ListsRead s.elements s.shape (shard_cells s.inner s.elements s.shape s.subchunk (unwrap_or held.contents []) held.pairs numbers) result → DecodesPart (coded (chain_of s) s.elements s.shape) held.contents asked result
   part_read_back held result count told read = by_contents held.contents held.pairs held.end result count told read

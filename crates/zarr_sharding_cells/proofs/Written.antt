@@ -13,6 +13,7 @@ use Rattle.zarr_codecs_meaning.specs.Standing as standing
 use Rattle.zarr_codecs_meaning.specs.Types.{Cell, is_value, uint64}
 use Rattle.zarr_codecs_meaning.proofs.Shards.{is_present}
 use Rattle.zarr_codecs_traits.specs.Indexers.{Asked, numbers_asked}
+use Rattle.zarr_codecs_traits.specs.Arrays.{coded, update_of}
 use Rattle.zarr_codecs_traits.specs.PartWriting.{IsEncodedInto}
 use Rattle.zarr_sharding_changes.specs.Changes.{Change, appended, pairs_after}
 use Rattle.zarr_sharding_state.specs.Held.{IsOpened}
@@ -136,7 +137,7 @@ module _ (s : ShardOf) (exact one : Bool) (asked : Asked) (payload : Payload) (c
         }
   ]
 
-  is_encoded : IsEncodedInto (chain_of s) exact s.elements s.shape asked payload cells old.contents new.contents
+  is_encoded : IsEncodedInto (coded (chain_of s) s.elements s.shape) exact (update_of asked payload old.contents) cells new.contents
   is_encoded = part_encoded s.subchunk s.inner s.index s.location exact one exact s.elements s.shape asked payload (index_length s) (numbers_asked s.shape asked) old.contents new.contents tested is_appended (λ e. e)
 
   pub put_into : IsPutInto s exact one asked payload cells old new

@@ -12,6 +12,7 @@ use Rattle.zarr_codecs_meaning.specs.Places.{index_shape}
 use Rattle.zarr_codecs_meaning.specs.Refusals.{CodecRefuses, PassesIndex}
 use Rattle.zarr_codecs_meaning.specs.Types.{Cell, Elements, uint64, zero_filled}
 use Rattle.zarr_codecs_traits.specs.Indexers.{Asked, are_inside, numbers_asked, put}
+use Rattle.zarr_codecs_traits.specs.Arrays.{coded, update_of}
 use Rattle.zarr_codecs_traits.specs.PartWriting.{IsEncodedInto}
 use Rattle.zarr_sharding_changes.specs.Changes.{Change, appended, pairs_after}
 use Rattle.zarr_sharding_codec.specs.PartWriting.{AreChanged, IsLostAt, IsMet, IsRefusedAt, IsTooLargeAt, Put, cells_held, cells_put, shape_in}
@@ -76,7 +77,7 @@ pub record IsPutInto (s : ShardOf) (exact one : Bool) (asked : Asked) (payload :
   -- the table has the new cells at these places, and its other ones elsewhere
   pub table : is_lossless (chain_of s) s.elements.type ≡ true → table_of s new ≡ put (numbers_asked s.shape asked) (map (λ cell. Some (cell ∷ [])) cells) (table_of s old)
   -- what stood for a table stands for the new one
-  pub encoded : IsEncodedInto (chain_of s) exact s.elements s.shape asked payload cells old.contents new.contents
+  pub encoded : IsEncodedInto (coded (chain_of s) s.elements s.shape) exact (update_of asked payload old.contents) cells new.contents
   pub met : (k : ℕ) → IsMet (put_of s asked cells) k → IsPut s exact (put_of s asked cells) old new k
   pub others : (k : ℕ) → k < length old.pairs → ¬ IsMet (put_of s asked cells) k → IsKept old new k
   pub told : is_lossless s.index uint64 ≡ true → IsTold s new

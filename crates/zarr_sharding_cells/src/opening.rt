@@ -16,7 +16,6 @@ ghost use Rattle.zarr_sharding_state.specs.States.{end_of, pairs_in};
 use crate::state::ShardState;
 use std::alloc::Global;
 use zarr_codecs_arrays::CodecError;
-use zarr_codecs_options::CodecOptions;
 use zarr_codecs_traits::{
     ArrayToBytesCodecTraits, BytesPartialDecoderTraits, BytesPartialEncoderTraits, WholeArray,
 };
@@ -58,7 +57,6 @@ impl<
         codec: &'a ShardingCodec<I, X>,
         source: E,
         array: WholeArray<'a>,
-        options: &CodecOptions,
     ) -> Result<ShardState<'a, I, X, E>, (E, CodecError)>
         ensures shard { IfOk result (λ state. shard_of I.meaning X.meaning state ≡ shard_in
             I.meaning X.meaning codec.now (elements_of array.entry.elements.now)
@@ -84,7 +82,7 @@ impl<
             ≡ refused_by (E.refused_calls source) refused.1) }
     {
         let mut source = source;
-        match open_shard(alloc, codec, &mut source, array, options) {
+        match open_shard(alloc, codec, &mut source, array) {
             Ok(opened) => Ok(ShardState {
                 codec,
                 elements: array.elements,
@@ -105,7 +103,6 @@ fn open_shard<I: ArrayToBytesCodecTraits, X: ArrayToBytesCodecTraits, D: BytesPa
     codec: &ShardingCodec<I, X>,
     source: &mut D,
     array: WholeArray<'_>,
-    options: &CodecOptions,
 ) -> Result<OpenedShard, CodecError>
     ensures fit { IfOk result (λ _. fits (shard_chain I.meaning X.meaning codec.now)
         (elements_of array.entry.elements.now).type array.entry.shape.now ≡ true) }
@@ -144,7 +141,7 @@ fn open_shard<I: ArrayToBytesCodecTraits, X: ArrayToBytesCodecTraits, D: BytesPa
         shape: pairs_shape.as_slice(),
         size,
     };
-    match KnownShard::open(alloc, source, codec.index_codecs(), layout, options) {
+    match KnownShard::open(alloc, source, codec.index_codecs(), layout) {
         Ok(known) => Ok(OpenedShard {
             known,
             pairs_shape,

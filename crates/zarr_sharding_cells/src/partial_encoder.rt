@@ -1,7 +1,9 @@
 //! The shard of an array, shared by threads.
 use crate::state::ShardState;
 use std::alloc::Global;
+use std::marker::Sync;
 use std::sync::{Mutex, Wait};
+use std::thread::Threads;
 use zarr_codecs_arrays::{ArrayBytes, CodecError};
 use zarr_codecs_options::CodecOptions;
 use zarr_codecs_traits::{ArrayToBytesCodecTraits, BytesPartialEncoderTraits, Indexer};
@@ -33,9 +35,26 @@ impl<
         }
     }
 
+    /// Takes the shard away, as `ShardState::erase` does, with its errors.
+    pub fn erase<R: Wait>(&self, rt: &R, alloc: Global) -> Result<(), CodecError> {
+        self.state.lock(rt).erase(alloc)
+    }
+
+    /// The shard without its lock.
+    pub fn into_state(self) -> ShardState<'a, I, X, E> {
+        self.state.into_inner()
+    }
+}
+
+impl<
+    'a,
+    I: ArrayToBytesCodecTraits + Sync,
+    X: ArrayToBytesCodecTraits + Sync,
+    E: BytesPartialEncoderTraits,
+> ShardingPartialEncoder<'a, I, X, E> {
     /// Puts elements at the places that are asked for, as `ShardState::partial_encode` does, with
     /// its errors.
-    pub fn partial_encode<R: Wait>(
+    pub fn partial_encode<R: Threads + Wait + Sync>(
         &self,
         rt: &R,
         alloc: Global,
@@ -45,28 +64,20 @@ impl<
     ) -> Result<(), CodecError> {
         self.state
             .lock(rt)
-            .partial_encode(alloc, indexer, bytes, options)
-    }
-
-    /// Takes the shard away, as `ShardState::erase` does, with its errors.
-    pub fn erase<R: Wait>(&self, rt: &R, alloc: Global) -> Result<(), CodecError> {
-        self.state.lock(rt).erase(alloc)
+            .partial_encode(rt, alloc, indexer, bytes, options)
     }
 
     /// The elements at the places that are asked for, as `ShardState::partial_decode` reads them,
     /// with its errors.
-    pub fn partial_decode<R: Wait>(
+    pub fn partial_decode<R: Threads + Wait + Sync>(
         &self,
         rt: &R,
         alloc: Global,
         indexer: Indexer<'_>,
         options: &CodecOptions,
     ) -> Result<ArrayBytes, CodecError> {
-        self.state.lock(rt).partial_decode(alloc, indexer, options)
-    }
-
-    /// The shard without its lock.
-    pub fn into_state(self) -> ShardState<'a, I, X, E> {
-        self.state.into_inner()
+        self.state
+            .lock(rt)
+            .partial_decode(rt, alloc, indexer, options)
     }
 }

@@ -1,6 +1,8 @@
 //! Elements read from the shard of an array.
 use crate::state::ShardState;
 use std::alloc::Global;
+use std::marker::Sync;
+use std::thread::Threads;
 use zarr_codecs_arrays::{ArrayBytes, CodecError};
 use zarr_codecs_options::CodecOptions;
 use zarr_codecs_regions::test_asked;
@@ -10,13 +12,13 @@ use zarr_sharding_index::IndexLayout;
 
 impl<
     'a,
-    I: ArrayToBytesCodecTraits,
-    X: ArrayToBytesCodecTraits,
+    I: ArrayToBytesCodecTraits + Sync,
+    X: ArrayToBytesCodecTraits + Sync,
     E: BytesPartialEncoderTraits,
 > ShardState<'a, I, X, E> {
     ghost use Rattle.std.specs.Prelude.{◌≡◌, ◌≤◌, ◌+◌, Some, IsTrue};
     ghost use Rattle.zarr_codecs_traits.specs.Indexers.{asked_of};
-    ghost use Rattle.zarr_codecs_traits.specs.Sources.{refused_after};
+    ghost use Rattle.zarr_codecs_traits.specs.Sources.{CountsRead};
     ghost use Rattle.zarr_sharding_cells.specs.Tables.{IsTold};
     ghost use Rattle.zarr_sharding_cells.specs.Views.{codec_of, held_of, known_of, shard_of, source_of};
     ghost use Rattle.zarr_sharding_decoder.specs.Parts.{ReadsPart, slices_met};
@@ -26,8 +28,10 @@ impl<
     /// that the places lie in is fetched once, and nothing else. `IncompatibleIndexer` where a
     /// place isn't one of the array's; `Damage` where a place that is asked for cannot be decoded;
     /// `Size` where the array has 2^63 bytes or more; `Source` where the source refuses.
-    pub fn partial_decode(
+    #[tactic(auto, using(zarr_codecs_traits::proofs::CountedReads::read_counted, zarr_codecs_traits::proofs::CountedReads::refusal_counted))]
+    pub fn partial_decode<R: Threads + Sync>(
         &mut self,
+        rt: &R,
         alloc: Global,
         indexer: Indexer<'_>,
         options: &CodecOptions,
@@ -36,8 +40,8 @@ impl<
             (shard_of I.meaning X.meaning self.old) (held_of E.contents self.old) → ReadsPart
             (shard_of I.meaning X.meaning self.old) (E.contents (source_of self.old))
             (asked_of indexer.entry) result }
-        ensures refused { E.refused_calls (source_of self.new) ≡
-            refused_after (E.refused_calls (source_of self.old)) result }
+        ensures refused { CountsRead (E.refused_calls (source_of self.old)) result
+            (E.refused_calls (source_of self.new)) }
         ensures given { IsTrue (E.is_honest (source_of self.old)) →
             E.given_bytes (source_of self.new) ≤ E.given_bytes (source_of self.old) + slices_met
             (shard_of I.meaning X.meaning self.old) (Some (known_of self.old).0)
@@ -57,7 +61,7 @@ impl<
             size: self.size,
         };
         let shard = OpenedShard {
-            index: self.known.index(),
+            pairs: self.known.pairs(),
             total: self.known.total(layout),
             elements: self.elements,
         };
@@ -65,7 +69,6 @@ impl<
             shape: self.shape,
             indexer,
         };
-        self.codec
-            .read_asked(alloc, &mut self.source, shard, asked, options)
+        self.codec.read_asked(alloc, &mut self.source, shard, asked)
     }
 }

@@ -2,6 +2,8 @@
 use crate::given::test_given;
 use crate::state::ShardState;
 use std::alloc::Global;
+use std::marker::Sync;
+use std::thread::Threads;
 use zarr_codecs_arrays::{ArrayBytes, CodecError};
 use zarr_codecs_options::CodecOptions;
 use zarr_codecs_traits::{ArrayToBytesCodecTraits, BytesPartialEncoderTraits, Indexer, WholeArray};
@@ -11,21 +13,19 @@ use zarr_sharding_state::GivenChanges;
 
 impl<
     'a,
-    I: ArrayToBytesCodecTraits,
-    X: ArrayToBytesCodecTraits,
+    I: ArrayToBytesCodecTraits + Sync,
+    X: ArrayToBytesCodecTraits + Sync,
     E: BytesPartialEncoderTraits,
 > ShardState<'a, I, X, E> {
-    ghost use Rattle.std.specs.Prelude.{◌≡◌, ◌≤◌, ◌+◌, List, Some, length, true, IfErr, IsTrue, OnErr, OnOk};
-    ghost use Rattle.zarr_codecs_arrays.specs.Outcomes.{IsValid};
+    ghost use Rattle.std.specs.Prelude.{◌≡◌, ◌≤◌, ◌+◌, List, Some, IfErr, IsTrue, OnErr, OnOk};
     ghost use Rattle.zarr_codecs_arrays.specs.Views.{payload_of};
     ghost use Rattle.zarr_codecs_meaning.specs.Types.{Cell};
-    ghost use Rattle.zarr_codecs_traits.specs.Indexers.{are_inside, asked_of, numbers_asked};
+    ghost use Rattle.zarr_codecs_traits.specs.Indexers.{asked_of};
     ghost use Rattle.zarr_codecs_traits.specs.Sources.{refused_after};
-    ghost use Rattle.zarr_codecs_traits.specs.Writes.{WriteRefused, accepted_after};
-    ghost use Rattle.zarr_sharding_cells.specs.Puts.{IsPutInto, IsRefusedUnwritten, IsWritten, NotPutInto, NotWritten};
-    ghost use Rattle.zarr_sharding_cells.specs.Tables.{IsErased, IsTold};
+    ghost use Rattle.zarr_codecs_traits.specs.Writes.{accepted_after};
+    ghost use Rattle.zarr_sharding_cells.specs.Puts.{IsPutInto, IsRefusedUnwritten, NotPutInto};
+    ghost use Rattle.zarr_sharding_cells.specs.Tables.{IsTold};
     ghost use Rattle.zarr_sharding_cells.specs.Views.{codec_of, held_of, known_of, shard_of, source_of};
-    ghost use Rattle.zarr_sharding_codec.specs.PartWriting.{put_at};
     ghost use Rattle.zarr_sharding_codec.specs.Views.{index_of, inner_of};
     ghost use Rattle.zarr_sharding_decoder.specs.Parts.{slices_met};
 
@@ -42,8 +42,9 @@ impl<
     /// subchunk, an offset or a length is too large, or the shard would have 2^63 bytes or more;
     /// `Source` where the source refuses. Where elements are refused, or for damage, an honest
     /// source gave at most the slices that are met.
-    pub fn partial_encode(
+    pub fn partial_encode<R: Threads + Sync>(
         &mut self,
+        rt: &R,
         alloc: Global,
         indexer: Indexer<'_>,
         bytes: ArrayBytes,
@@ -82,10 +83,31 @@ impl<
             shape: self.shape,
         };
         match test_given(array, indexer, &bytes) {
-            Ok(()) => self.put_asked(alloc, indexer, bytes, options),
+            Ok(()) => self.put_asked(alloc, indexer, bytes),
             Err(error) => Err(error),
         }
     }
+}
+
+impl<
+    'a,
+    I: ArrayToBytesCodecTraits,
+    X: ArrayToBytesCodecTraits,
+    E: BytesPartialEncoderTraits,
+> ShardState<'a, I, X, E> {
+    ghost use Rattle.std.specs.Prelude.{◌≡◌, ◌≤◌, ◌+◌, List, Some, length, true, IfErr, IsTrue, OnErr, OnOk};
+    ghost use Rattle.zarr_codecs_arrays.specs.Outcomes.{IsValid};
+    ghost use Rattle.zarr_codecs_arrays.specs.Views.{payload_of};
+    ghost use Rattle.zarr_codecs_meaning.specs.Types.{Cell};
+    ghost use Rattle.zarr_codecs_traits.specs.Indexers.{are_inside, asked_of, numbers_asked};
+    ghost use Rattle.zarr_codecs_traits.specs.Sources.{refused_after};
+    ghost use Rattle.zarr_codecs_traits.specs.Writes.{WriteRefused, accepted_after};
+    ghost use Rattle.zarr_sharding_cells.specs.Puts.{IsRefusedUnwritten, IsWritten, NotWritten};
+    ghost use Rattle.zarr_sharding_cells.specs.Tables.{IsErased, IsTold};
+    ghost use Rattle.zarr_sharding_cells.specs.Views.{codec_of, held_of, known_of, shard_of, source_of};
+    ghost use Rattle.zarr_sharding_codec.specs.PartWriting.{put_at};
+    ghost use Rattle.zarr_sharding_codec.specs.Views.{index_of, inner_of};
+    ghost use Rattle.zarr_sharding_decoder.specs.Parts.{slices_met};
 
     /// Puts elements at the places that are asked for, which are the array's. Errors as those of
     /// `partial_encode`.
@@ -94,7 +116,6 @@ impl<
         alloc: Global,
         indexer: Indexer<'_>,
         bytes: ArrayBytes,
-        options: &CodecOptions,
     ) -> Result<(), CodecError>
         requires { are_inside (shard_of I.meaning X.meaning self.old).shape (asked_of indexer)
             ≡ true }
@@ -159,13 +180,13 @@ impl<
         };
         match self
             .codec
-            .update_asked(alloc, &mut self.source, shard, given, options)
+            .update_asked(alloc, &mut self.source, shard, given)
         {
             Ok(changes) => {
                 let given = GivenChanges { layout, changes };
                 let codecs = self.codec.index_codecs();
                 self.known
-                    .write_given(alloc, &mut self.source, codecs, given, options)
+                    .write_given(alloc, &mut self.source, codecs, given)
             }
             Err(error) => Err(error),
         }

@@ -11,6 +11,7 @@ use Rattle.zarr_codecs_regions.specs.Updates.{put}
 use Rattle.zarr_codecs_arrays.specs.declared.array_bytes.ArrayBytes.{ArrayBytes}
 use Rattle.zarr_codecs_arrays.specs.declared.error.CodecError.{CodecError}
 use Rattle.zarr_codecs_arrays.specs.declared.error.CodecError.TheVariants as error
+use Rattle.zarr_codecs_traits.specs.Arrays.{coded}
 use Rattle.zarr_codecs_traits.specs.Outcomes.{Decodes}
 use Rattle.zarr_sharding_index.specs.Held.{DecodesIndex, IsIndexHeld}
 use Rattle.zarr_sharding_places.specs.Locating.{part_shape}
@@ -86,7 +87,7 @@ pub even_index : (shape subchunk : List ℕ) → product (index_shape shape subc
 even_index shape subchunk = let two = index_product shape subchunk in omega (arith, two)
 
 pub shard_read : (subchunk : List ℕ) (inner index : Chain) (location : Location) (elements : Elements) (shape value : List ℕ) (pairs : List Pair) (result : Result ArrayBytes CodecError) → fits (sharded subchunk inner index location) elements.type shape ≡ true
-    → IsIndexHeld index location (index_shape shape subchunk) value pairs → DecodesPieces inner elements shape subchunk value pairs result → Decodes (sharded subchunk inner index location) elements shape value result
+    → IsIndexHeld index location (index_shape shape subchunk) value pairs → DecodesPieces inner elements shape subchunk value pairs result → Decodes (coded (sharded subchunk inner index location) elements shape) value result
 shard_read subchunk inner index location elements shape value pairs (Ok bytes) fit held found = record {
   cells = found.cells;
   fit = fit;
@@ -109,7 +110,7 @@ shard_read subchunk inner index location elements shape value pairs (Err error.I
 shard_read subchunk inner index location elements shape value pairs (Err error.CellOutOfRange) fit held found = found
 
 pub shard_unread : (subchunk : List ℕ) (inner index : Chain) (location : Location) (elements : Elements) (shape value : List ℕ) (e : CodecError) → fits (sharded subchunk inner index location) elements.type shape ≡ true
-    → DecodesIndex index location (index_shape shape subchunk) value (Err e) → Decodes (sharded subchunk inner index location) elements shape value (Err e)
+    → DecodesIndex index location (index_shape shape subchunk) value (Err e) → Decodes (coded (sharded subchunk inner index location) elements shape) value (Err e)
 shard_unread subchunk inner index location elements shape value error.Damage fit found = (fit, ap (option_and_then (shard_decoded inner elements shape subchunk value)) found)
 shard_unread subchunk inner index location elements shape value error.Memory fit found = tt
 shard_unread subchunk inner index location elements shape value error.Size fit found = elim found [ ]

@@ -19,6 +19,7 @@ use Rattle.zarr_codecs_meaning.proofs.Shards.{SlicesStand, length-pairs_from, le
 use Rattle.zarr_codecs_arrays.specs.Outcomes.{IsValid}
 use Rattle.zarr_codecs_arrays.specs.declared.error.CodecError.{CodecError}
 use Rattle.zarr_codecs_arrays.specs.declared.error.CodecError.TheVariants as error
+use Rattle.zarr_codecs_traits.specs.Arrays.{coded}
 use Rattle.zarr_codecs_traits.specs.Outcomes.{Encodes, IsEncoded}
 use Rattle.zarr_sharding_index.specs.Stored.{index_fits}
 use Rattle.zarr_sharding_index.proofs.StoredIndex.{index_below}
@@ -79,7 +80,7 @@ pub record IsMade (subchunk : List ℕ) (inner index : Chain) (location : Locati
 
 pub shard_encoded : (subchunk : List ℕ) (inner index : Chain) (location : Location) (row one two : Bool) (elements : Elements) (shape value : List ℕ) (payload : Payload) (cells : List Cell) (stored : List (Option (List ℕ))) → IsMade subchunk inner index location elements shape cells
     → IsValid elements.type payload (product shape) cells → ArePiecesStored inner one elements (pieces_of elements.fill cells (parts_of shape subchunk)) stored → IsAssembled index two location (index_shape shape subchunk) stored value → length value < 2 ^ 63
-    → IsEncoded (sharded subchunk inner index location) (row && (one && two)) elements shape payload cells value
+    → IsEncoded (coded (sharded subchunk inner index location) elements shape) (row && (one && two)) payload cells value
 shard_encoded subchunk inner index location row one two elements shape value payload cells stored made valid are assembled short =
     let pairs_shape = index_shape shape subchunk in
     let size = index_size index pairs_shape in
@@ -122,7 +123,7 @@ shard_encoded subchunk inner index location row one two elements shape value pay
 
 -- where what is stored of the subchunks is refused, so is the array
 pub pieces_refused : (subchunk : List ℕ) (inner index : Chain) (location : Location) (exact all : Bool) (elements : Elements) (shape : List ℕ) (base : ℕ) (payload : Payload) (cells : List Cell) (e : CodecError) → fits (sharded subchunk inner index location) elements.type shape ≡ true
-    → IsValid elements.type payload (product shape) cells → StoresPieces inner exact elements shape (pieces_of elements.fill cells (parts_of shape subchunk)) base (Err e) → Encodes (sharded subchunk inner index location) all elements shape payload (Err e)
+    → IsValid elements.type payload (product shape) cells → StoresPieces inner exact elements shape (pieces_of elements.fill cells (parts_of shape subchunk)) base (Err e) → Encodes (coded (sharded subchunk inner index location) elements shape) all payload (Err e)
 pieces_refused subchunk inner index location exact all elements shape base payload cells error.Codec fit valid h = (cells, record { valid = valid; fit = fit; is = inl h })
 pieces_refused subchunk inner index location exact all elements shape base payload cells error.Size fit valid (inl h) = inl h
 pieces_refused subchunk inner index location exact all elements shape base payload cells error.Size fit valid (inr h) = inr (cells, record { valid = valid; fit = fit; is = inl h })
@@ -147,7 +148,7 @@ slices_many inner exact elements shape subchunk cells stored are = stored_many i
 pub assembled_encodes : (subchunk : List ℕ) (inner index : Chain) (location : Location) (row one two : Bool) (elements : Elements) (shape : List ℕ) (payload : Payload) (cells : List Cell) (stored : List (Option (List ℕ))) (result : Result (Vec ℕ Global) CodecError)
     → IsLawfulChain inner → IsLawfulChain index → fits (sharded subchunk inner index location) elements.type shape ≡ true → IsValid elements.type payload (product shape) cells
     → ArePiecesStored inner one elements (pieces_of elements.fill cells (parts_of shape subchunk)) stored → Assembles index two location (index_shape shape subchunk) stored result
-    → Encodes (sharded subchunk inner index location) (row && (one && two)) elements shape payload result
+    → Encodes (coded (sharded subchunk inner index location) elements shape) (row && (one && two)) payload result
 assembled_encodes subchunk inner index location row one two elements shape payload cells stored (Ok value) inner_lawful index_lawful fit valid are h =
     let made : IsMade subchunk inner index location elements shape cells = record { inner_lawful = inner_lawful; index_lawful = index_lawful; fit = fit; small = (index_below index (index_shape shape subchunk) (index_part subchunk inner index location elements shape fit)).1 } in
     (cells, shard_encoded subchunk inner index location row one two elements shape value.items payload cells stored made valid are h (search (rules, value.ok, value.small)))

@@ -11,6 +11,7 @@ use Rattle.zarr_codecs_meaning.specs.Places.{index_shape, parts_of}
 use Rattle.zarr_codecs_meaning.specs.Types.{Elements, is_value}
 use Rattle.zarr_codecs_meaning.proofs.Parts.{index_product}
 use Rattle.zarr_codecs_traits.specs.Indexers.{Asked}
+use Rattle.zarr_codecs_traits.specs.Arrays.{coded, update_of}
 use Rattle.zarr_codecs_traits.specs.PartWriting.{IsPlaced, NotEncodedInto}
 use Rattle.zarr_sharding_changes.specs.Changes.{Change, pairs_after}
 use Rattle.zarr_sharding_state.specs.Held.{IsOpened}
@@ -65,7 +66,7 @@ module _ (subchunk : List ℕ) (inner index : Chain) (location : Location) (exac
         (subst (λ (ns : List ℕ). AreChanged (stored_in inner exact elements later pairs) (put_at shape subchunk ns h.tested.cells) changes) h.given_is changed);
   }
 
-  pub not_updated : (A : Type 0) (e : CodecError) → UpdatesSlices (stored_in inner exact elements later pairs) (put_at shape subchunk given h.tested.cells) (Err e) → NotEncodedInto {A = A} (sharded subchunk inner index location) elements shape asked payload old (Err e)
+  pub not_updated : (A : Type 0) (e : CodecError) → UpdatesSlices (stored_in inner exact elements later pairs) (put_at shape subchunk given h.tested.cells) (Err e) → NotEncodedInto {A = A} (coded (sharded subchunk inner index location) elements shape) (update_of asked payload old) (Err e)
   not_updated A e why =
       part_not_updated A subchunk inner index location exact elements shape asked payload size numbers old pairs h.tested (ready_opened subchunk inner index location elements shape asked payload size numbers old pairs end h.tested read_count read_opened) h.tested.below e
       (subst (λ (o : Option (List ℕ)). UpdatesSlices (stored_in inner exact elements o pairs) (put_at shape subchunk numbers h.tested.cells) (Err e)) (sym same)
@@ -79,14 +80,14 @@ module _ (subchunk : List ℕ) (inner index : Chain) (location : Location) (exac
       (subst (λ (cs : List SliceChange). IfOk result (AppendsChanges index one location (index_shape shape subchunk) (changes_of cs) end pairs last new)) are
       (subst (λ (s : List ℕ). IfOk result (AppendsChanges index one location s (changes_of lent) end pairs last new)) h.shape_is made)))
 
-  pub not_written : (changes : List Change) (result : Result Bool CodecError) → ChangesUnwritten index pairs_shape (pairs_after end changes pairs) result → NotEncodedInto (sharded subchunk inner index location) elements shape asked payload old result
+  pub not_written : (changes : List Change) (result : Result Bool CodecError) → ChangesUnwritten index pairs_shape (pairs_after end changes pairs) result → NotEncodedInto (coded (sharded subchunk inner index location) elements shape) (update_of asked payload old) result
   not_written changes result why =
       part_not_written Bool subchunk inner index location exact elements shape asked payload size numbers old pairs h.tested (ready_opened subchunk inner index location elements shape asked payload size numbers old pairs end h.tested read_count read_opened) h.tested.below (pairs_after end changes pairs) result
       (changed_count end changes pairs ∙ read_count) (subst (λ (s : List ℕ). ChangesUnwritten index s (pairs_after end changes pairs) result) h.shape_is why)
 
 -- what isn't opened, by the shape that it is read with
 pub not_opened : (A : Type 0) (subchunk : List ℕ) (inner index : Chain) (location : Location) (elements : Elements) (shape : List ℕ) (asked : Asked) (payload : Payload) (size : ℕ) (numbers pairs_shape : List ℕ) (old : Option (List ℕ)) (e : CodecError)
-    → IsTestedPart (sharded subchunk inner index location) elements shape asked payload size numbers → pairs_shape ≡ index_shape shape subchunk → OpenRefused index location pairs_shape old e → NotEncodedInto {A = A} (sharded subchunk inner index location) elements shape asked payload old (Err e)
+    → IsTestedPart (sharded subchunk inner index location) elements shape asked payload size numbers → pairs_shape ≡ index_shape shape subchunk → OpenRefused index location pairs_shape old e → NotEncodedInto {A = A} (coded (sharded subchunk inner index location) elements shape) (update_of asked payload old) (Err e)
 not_opened A subchunk inner index location elements shape asked payload size numbers pairs_shape old e tested is why =
     part_unopened A subchunk inner index location elements shape asked payload size numbers old e tested (subst (λ (s : List ℕ). OpenRefused index location s old e) is why)
 

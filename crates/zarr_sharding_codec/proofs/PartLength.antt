@@ -15,6 +15,7 @@ use Rattle.zarr_codecs_meaning.specs.Places.{index_shape, parts_of}
 use Rattle.zarr_codecs_meaning.specs.Refusals.{IsMade}
 use Rattle.zarr_codecs_meaning.specs.Types.{Elements, uint64}
 use Rattle.zarr_codecs_traits.specs.Indexers.{Asked, numbers_asked}
+use Rattle.zarr_codecs_traits.specs.Arrays.{coded}
 use Rattle.zarr_codecs_traits.specs.PartWriting.{AreSlices, PassesLength, cells_after}
 use Rattle.zarr_sharding_changes.specs.Changes.{Change, appended}
 use Rattle.zarr_sharding_state.specs.Held.{IsOpened, shard_length}
@@ -62,7 +63,7 @@ module _ (subchunk : List ℕ) (inner index : Chain) (location : Location) (exac
     (tested : IsTestedPart (sharded subchunk inner index location) elements shape asked payload size numbers) (opened : IsShardOpened subchunk inner index location elements shape old pairs) (lossless : is_lossless inner elements.type ≡ true) where
   -- the subchunks of the array after the write
   abbrev wanted : List Piece
-  wanted = pieces_of elements.fill (cells_after (sharded subchunk inner index location) elements shape old (numbers_asked shape asked) tested.cells) (parts_of shape subchunk)
+  wanted = pieces_of elements.fill (cells_after (coded (sharded subchunk inner index location) elements shape) old (numbers_asked shape asked) tested.cells) (parts_of shape subchunk)
 
   -- a subchunk's slice, if there is one, is made of its cells
   abbrev IsMadeAt : ℕ → Option (List ℕ) → Type 0
@@ -89,12 +90,12 @@ module _ (subchunk : List ℕ) (inner index : Chain) (location : Location) (exac
   slices_length changes changed =
       let new = put_at shape subchunk numbers tested.cells in
       let stored = stored_in inner exact elements old pairs in
-      let count = length-map (parts_of shape subchunk) (piece_of elements.fill (cells_after (sharded subchunk inner index location) elements shape old (numbers_asked shape asked) tested.cells)) in
+      let count = length-map (parts_of shape subchunk) (piece_of elements.fill (cells_after (coded (sharded subchunk inner index location) elements shape) old (numbers_asked shape asked) tested.cells)) in
       let many = opened.many in
       slices_joined 0 (length wanted) changes (are_rising stored new 0 (0 + length wanted) changes changed.are (omega (arith, many, count)) (λ some. omega arith) changed.once)
 
   pub passes_length : (changes : List Change) → AreChanged (stored_in inner exact elements old pairs) (put_at shape subchunk numbers tested.cells) changes → 2 ^ 63 ≤ option_map_or length old (index_size index (index_shape shape subchunk)) + length (appended changes)
-      → PassesLength (sharded subchunk inner index location) elements shape old (cells_after (sharded subchunk inner index location) elements shape old (numbers_asked shape asked) tested.cells)
+      → PassesLength (sharded subchunk inner index location) elements shape old (cells_after (coded (sharded subchunk inner index location) elements shape) old (numbers_asked shape asked) tested.cells)
   passes_length changes changed long =
       let slices = map (slice_among changes) (range_with_len 0 (length wanted)) in
       let same = ap (λ (bytes : List ℕ). length bytes) (slices_length changes changed) in

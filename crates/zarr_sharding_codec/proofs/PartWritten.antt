@@ -17,6 +17,7 @@ use Rattle.zarr_codecs_meaning.specs.Types.{Cell, Elements, is_fill, is_value}
 use Rattle.zarr_codecs_meaning.proofs.Fitting.{fitted}
 use Rattle.zarr_codecs_meaning.proofs.Parts.{index_product}
 use Rattle.zarr_codecs_traits.specs.Indexers.{Asked, numbers_asked, put}
+use Rattle.zarr_codecs_traits.specs.Arrays.{coded, update_of}
 use Rattle.zarr_codecs_traits.specs.PartWriting.{AreSlices, IsDamaged, IsEncodedInto, IsRefusedInto, MeetsLost, NotEncodedInto, PassesLength, cells_after, cells_shown, only_cell}
 use Rattle.zarr_sharding_changes.specs.Changes.{Change, appended, pairs_after}
 use Rattle.zarr_sharding_places.specs.Locating.{part_shape}
@@ -47,7 +48,7 @@ opened_opens subchunk inner index location elements shape count end (Some value)
 
 pub part_encoded : (subchunk : List ℕ) (inner index : Chain) (location : Location) (exact one whole : Bool) (elements : Elements) (shape : List ℕ) (asked : Asked) (payload : Payload) (size : ℕ) (numbers : List ℕ) (old new : Option (List ℕ))
     → (tested : IsTestedPart (sharded subchunk inner index location) elements shape asked payload size numbers) → IsAppended subchunk inner index location exact one elements shape numbers tested.cells old new → (IsTrue whole → IsTrue exact)
-    → IsEncodedInto (sharded subchunk inner index location) whole elements shape asked payload tested.cells old new
+    → IsEncodedInto (coded (sharded subchunk inner index location) elements shape) whole (update_of asked payload old) tested.cells new
 part_encoded subchunk inner index location exact one whole elements shape asked payload size numbers old new tested appended to_exact =
     let h = subst (λ (ns : List ℕ). IsAppended subchunk inner index location exact one elements shape ns tested.cells old new) tested.numbers_are appended in
     let ns = numbers_asked shape asked in
@@ -73,17 +74,17 @@ are_no_slices made (piece ∷ pieces) = (tt, are_no_slices made pieces)
 
 -- why elements that were tested are not put
 pub refused_tested : (chain : Chain) (elements : Elements) (shape : List ℕ) (asked : Asked) (payload : Payload) (size : ℕ) (numbers : List ℕ) (stored : Option (List ℕ)) (refuses : List Cell → Type 0) → (tested : IsTestedPart chain elements shape asked payload size numbers)
-    → refuses (cells_after chain elements shape stored (numbers_asked shape asked) tested.cells) → IsRefusedInto chain elements shape asked payload stored refuses
+    → refuses (cells_after (coded chain elements shape) stored (numbers_asked shape asked) tested.cells) → IsRefusedInto (coded chain elements shape) (update_of asked payload stored) refuses
 refused_tested chain elements shape asked payload size numbers stored refuses tested is = record { cells = tested.cells; valid = tested.valid; fit = tested.fit; inside = tested.inside; is = is }
 
 pub part_unopened : (A : Type 0) (subchunk : List ℕ) (inner index : Chain) (location : Location) (elements : Elements) (shape : List ℕ) (asked : Asked) (payload : Payload) (size : ℕ) (numbers : List ℕ) (old : Option (List ℕ)) (e : CodecError)
-    → IsTestedPart (sharded subchunk inner index location) elements shape asked payload size numbers → opening.OpenRefused index location (index_shape shape subchunk) old e → NotEncodedInto {A = A} (sharded subchunk inner index location) elements shape asked payload old (Err e)
+    → IsTestedPart (sharded subchunk inner index location) elements shape asked payload size numbers → opening.OpenRefused index location (index_shape shape subchunk) old e → NotEncodedInto {A = A} (coded (sharded subchunk inner index location) elements shape) (update_of asked payload old) (Err e)
 part_unopened A subchunk inner index location elements shape asked payload size numbers None error.Damage tested why = absurd why
 part_unopened A subchunk inner index location elements shape asked payload size numbers (Some value) error.Damage tested why = (tested.fit, inl (damaged_value subchunk inner index location elements shape value (numbers_asked shape asked) why))
 part_unopened A subchunk inner index location elements shape asked payload size numbers None error.Size tested why = absurd why
 part_unopened A subchunk inner index location elements shape asked payload size numbers (Some value) error.Size tested why =
     let chain = sharded subchunk inner index location in
-    let after = cells_after chain elements shape (Some value) (numbers_asked shape asked) tested.cells in
+    let after = cells_after (coded chain elements shape) (Some value) (numbers_asked shape asked) tested.cells in
     let pieces = pieces_of elements.fill after (parts_of shape subchunk) in
     let none : List (Option (List ℕ)) = map (λ (piece : Piece). None) pieces in
     let long : PassesLength chain elements shape (Some value) after = (none, are_no_slices (IsMade inner elements) pieces, omega (arith, why)) in
@@ -99,7 +100,7 @@ module _ (A : Type 0) (subchunk : List ℕ) (inner index : Chain) (location : Lo
     (below : list_all (λ n. nat_lt n (product shape)) numbers ≡ true) where
   -- the cells that the array would have
   abbrev pub after : List Cell
-  after = cells_after (sharded subchunk inner index location) elements shape old (numbers_asked shape asked) tested.cells
+  after = cells_after (coded (sharded subchunk inner index location) elements shape) old (numbers_asked shape asked) tested.cells
 
   -- those of a subchunk that is decoded
   pub after_piece : (k : ℕ) (before : List Cell) → k < length pairs → piece_decoded inner elements (unwrap_or old []) (part_shape shape subchunk k) (get_or pairs k absent_pair) ≡ Some before
@@ -136,7 +137,7 @@ module _ (A : Type 0) (subchunk : List ℕ) (inner index : Chain) (location : Lo
       let meets = lost_meets subchunk inner index location exact elements shape numbers tested.cells value pairs is.cuts is.many below is.opened.0 lost in
       inr (inl (subst (λ (ns : List ℕ). MeetsLost (sharded subchunk inner index location) elements shape value ns) tested.numbers_are meets))
 
-  pub part_not_updated : (e : CodecError) → UpdatesSlices (stored_in inner exact elements old pairs) (put_at shape subchunk numbers tested.cells) (Err e) → NotEncodedInto {A = A} (sharded subchunk inner index location) elements shape asked payload old (Err e)
+  pub part_not_updated : (e : CodecError) → UpdatesSlices (stored_in inner exact elements old pairs) (put_at shape subchunk numbers tested.cells) (Err e) → NotEncodedInto {A = A} (coded (sharded subchunk inner index location) elements shape) (update_of asked payload old) (Err e)
   part_not_updated error.Damage why = (tested.fit, inl (lost_stops old opened why))
   part_not_updated error.Codec why =
       refused_tested (sharded subchunk inner index location) elements shape asked payload size numbers old (CodecRefuses (sharded subchunk inner index location) elements shape) tested (inl (after_refused CodecRefuses why))
@@ -151,7 +152,7 @@ module _ (A : Type 0) (subchunk : List ℕ) (inner index : Chain) (location : Lo
 
   -- ---- what isn't written
 
-  pub part_not_written : (made : List Pair) (result : Result Bool CodecError) → length made ≡ length (parts_of shape subchunk) → ChangesUnwritten index (index_shape shape subchunk) made result → NotEncodedInto (sharded subchunk inner index location) elements shape asked payload old result
+  pub part_not_written : (made : List Pair) (result : Result Bool CodecError) → length made ≡ length (parts_of shape subchunk) → ChangesUnwritten index (index_shape shape subchunk) made result → NotEncodedInto (coded (sharded subchunk inner index location) elements shape) (update_of asked payload old) result
   part_not_written made (Ok written) many why = tt
   part_not_written made (Err error.Codec) many why =
       refused_tested (sharded subchunk inner index location) elements shape asked payload size numbers old (CodecRefuses (sharded subchunk inner index location) elements shape) tested (inr (made, many, why))

@@ -16,10 +16,11 @@ use Rattle.zarr_codecs_arrays.specs.declared.array_bytes.ArrayBytes.{ArrayBytes}
 use Rattle.zarr_codecs_arrays.specs.declared.error.CodecError.{CodecError}
 use Rattle.zarr_codecs_arrays.specs.declared.error.CodecError.TheVariants as error
 use Rattle.zarr_codecs_traits.specs.Indexers.{Asked, are_inside, numbers_asked}
+use Rattle.zarr_codecs_traits.specs.Arrays.{coded}
 use Rattle.zarr_codecs_traits.specs.Outcomes.{DecodesPart}
 use Rattle.zarr_codecs_traits.specs.Sources.{refused_after}
 use Rattle.zarr_sharding_index.specs.Held.{FetchesIndex, FetchesSlice, IsFetched, IsIndexHeld}
-use Rattle.zarr_sharding_index.specs.Views.{pairs_of}
+use Rattle.zarr_sharding_index.specs.Present.{all_pairs}
 use Rattle.zarr_sharding_index.specs.declared.held.FetchedIndex.{FetchedIndex}
 use Rattle.zarr_sharding_state.specs.Held.{are_absent}
 use Rattle.zarr_sharding_codec.specs.Reading.{IsTotalOf, Lists, ListsRead, places_decoded, shard_cells, slice_cells}
@@ -34,7 +35,7 @@ not_opened chain elements shape value places false closed some h = one_lost (cel
 
 -- what is read of places of a slice, of which there are some
 pub slice_read : (inner : Chain) (elements : Elements) (shape slice : List ℕ) (asked : Asked) (result : Result ArrayBytes CodecError) → fits inner elements.type shape ≡ true → 0 < length (numbers_asked shape asked) → are_inside shape asked ≡ true → 0 ≡ refused_after 0 result
-    → DecodesPart inner elements shape (Some slice) asked result → Lists elements shape (slice_cells inner elements shape slice (numbers_asked shape asked)) result
+    → DecodesPart (coded inner elements shape) (Some slice) asked result → Lists elements shape (slice_cells inner elements shape slice (numbers_asked shape asked)) result
 slice_read inner elements shape slice asked (Ok bytes) fit some inside unrefused part = record {
   cells = part.cells;
   is = (if_some (opens inner elements shape slice) (slice_cells inner elements shape slice (numbers_asked shape asked)) part.cells part.is).1;
@@ -113,7 +114,7 @@ part_is subchunk inner index location elements shape value pairs numbers held =
 
 pub part_found : (subchunk : List ℕ) (inner index : Chain) (location : Location) (elements : Elements) (shape value : List ℕ) (pairs : List Pair) (numbers : List ℕ) (asked : Asked) (result : Result ArrayBytes CodecError)
     → fits (sharded subchunk inner index location) elements.type shape ≡ true → are_inside shape asked ≡ true → numbers ≡ numbers_asked shape asked → IsIndexHeld index location (index_shape shape subchunk) value pairs
-    → ListsRead elements shape (shard_cells inner elements shape subchunk value pairs numbers) result → DecodesPart (sharded subchunk inner index location) elements shape (Some value) asked result
+    → ListsRead elements shape (shard_cells inner elements shape subchunk value pairs numbers) result → DecodesPart (coded (sharded subchunk inner index location) elements shape) (Some value) asked result
 part_found subchunk inner index location elements shape value pairs numbers asked (Ok bytes) fit inside are held found = record {
   cells = found.cells;
   fit = fit;
@@ -130,7 +131,7 @@ part_found subchunk inner index location elements shape value pairs numbers aske
 
 -- where the index isn't fetched, no part is
 pub part_unfetched : (subchunk : List ℕ) (inner index : Chain) (location : Location) (elements : Elements) (shape : List ℕ) (stored : Option (List ℕ)) (asked : Asked) (e : CodecError) → fits (sharded subchunk inner index location) elements.type shape ≡ true
-    → are_inside shape asked ≡ true → FetchesIndex index location (index_shape shape subchunk) stored (Err e) → DecodesPart (sharded subchunk inner index location) elements shape stored asked (Err e)
+    → are_inside shape asked ≡ true → FetchesIndex index location (index_shape shape subchunk) stored (Err e) → DecodesPart (coded (sharded subchunk inner index location) elements shape) stored asked (Err e)
 part_unfetched subchunk inner index location elements shape None asked error.Damage fit inside lost = elim lost [ ]
 part_unfetched subchunk inner index location elements shape (Some value) asked error.Damage fit inside lost =
     let meet = λ (n : ℕ). cell_of_part (cell_at inner elements) elements.fill value n (parts_of shape subchunk) in
@@ -145,7 +146,7 @@ part_unfetched subchunk inner index location elements shape stored asked e fit i
 pub record IsOpened (index : Chain) (location : Location) (shape : List ℕ) (contents : Option (List ℕ)) (found : FetchedIndex) : Type 0 where
   pub value : List ℕ
   pub is : contents ≡ Some value
-  pub held : IsIndexHeld index location shape value (pairs_of found.index)
+  pub held : IsIndexHeld index location shape value (all_pairs found.pairs)
   pub total : found.total ≡ length value
 
 pub fetched_value : (index : Chain) (location : Location) (shape : List ℕ) (contents : Option (List ℕ)) (o : Option FetchedIndex) (found : FetchedIndex) → o ≡ Some found → IsFetched index location shape contents o → IsOpened index location shape contents found
@@ -157,7 +158,7 @@ fetched_value index location shape (Some value) (Some other) found is h =
     record {
       value = value;
       is = refl;
-      held = subst (λ (f : FetchedIndex). IsIndexHeld index location shape value (pairs_of f.index)) same h.0;
+      held = subst (λ (f : FetchedIndex). IsIndexHeld index location shape value (all_pairs f.pairs)) same h.0;
       total = subst (λ (f : FetchedIndex). f.total ≡ length value) same h.1;
     }
 
@@ -172,7 +173,7 @@ fills fill [] = refl
 fills fill (n ∷ ns) = ap (λ cells. fill ∷ cells) (fills fill ns)
 
 pub part_filled : (chain : Chain) (elements : Elements) (shape : List ℕ) (stored : Option (List ℕ)) (numbers : List ℕ) (asked : Asked) (bytes : ArrayBytes) → fits chain elements.type shape ≡ true → are_inside shape asked ≡ true → numbers ≡ numbers_asked shape asked
-    → stored ≡ None → cells_in elements.type (payload_of bytes) ≡ Some (replicate (length numbers) elements.fill) → DecodesPart chain elements shape stored asked (Ok bytes)
+    → stored ≡ None → cells_in elements.type (payload_of bytes) ≡ Some (replicate (length numbers) elements.fill) → DecodesPart (coded chain elements shape) stored asked (Ok bytes)
 part_filled chain elements shape stored numbers asked bytes fit inside are none lists = record {
   cells = replicate (length numbers) elements.fill;
   fit = fit;

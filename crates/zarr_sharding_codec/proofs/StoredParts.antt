@@ -15,6 +15,7 @@ use Rattle.zarr_codecs_meaning.proofs.Lists.{some_same}
 use Rattle.zarr_codecs_arrays.specs.Outcomes.{IsValid}
 use Rattle.zarr_codecs_arrays.specs.declared.error.CodecError.{CodecError}
 use Rattle.zarr_codecs_arrays.specs.declared.error.CodecError.TheVariants as error
+use Rattle.zarr_codecs_traits.specs.Arrays.{coded}
 use Rattle.zarr_codecs_traits.specs.Outcomes.{Encodes}
 use Rattle.zarr_codecs_traits.specs.Sources.{refused_after}
 use Rattle.zarr_sharding_compaction.proofs.Copying.{joined_more, pairs_more}
@@ -22,7 +23,7 @@ use Rattle.zarr_sharding_codec.specs.Slices.{ArePiecesStored, IsPieceStored, Sto
 
 -- a subchunk that isn't all fill is refused as its chain refuses it
 pub piece_refused : (inner : Chain) (exact : Bool) (elements : Elements) (shape : List ℕ) (payload : Payload) (cells : List Cell) (e : CodecError) → fits inner elements.type shape ≡ true → is_fill elements.fill cells ≡ false
-    → IsValid elements.type payload (product shape) cells → Encodes inner exact elements shape payload (Err e) → StoresPiece inner exact elements (shape, cells) (Err e)
+    → IsValid elements.type payload (product shape) cells → Encodes (coded inner elements shape) exact payload (Err e) → StoresPiece inner exact elements (shape, cells) (Err e)
 piece_refused inner exact elements shape payload cells error.Fit fit some valid given = cc
 piece_refused inner exact elements shape payload cells error.Codec fit some valid given =
     (some, subst (λ found. CodecRefuses inner elements shape found) (some_same (sym given.1.valid.is.lists ∙ valid.is.lists)) given.1.is)
@@ -46,7 +47,7 @@ piece_refused inner exact elements shape payload cells error.CellOutOfRange fit 
     let yes = subst (λ found. list_all (is_value elements.type) found ≡ true) (sym same) valid.values in cc
 
 -- elements are not refused by a source
-pub encodes_unrefused : (A : Type 0) (chain : Chain) (exact : Bool) (elements : Elements) (shape : List ℕ) (payload : Payload) (e : CodecError) (count : ℕ) → Encodes chain exact elements shape payload (Err e) → refused_after {A = A} count (Err e) ≡ count
+pub encodes_unrefused : (A : Type 0) (chain : Chain) (exact : Bool) (elements : Elements) (shape : List ℕ) (payload : Payload) (e : CodecError) (count : ℕ) → Encodes (coded chain elements shape) exact payload (Err e) → refused_after {A = A} count (Err e) ≡ count
 encodes_unrefused A chain exact elements shape payload error.Source count h = elim h.1 [ ]
 encodes_unrefused A chain exact elements shape payload e count h = refl
 

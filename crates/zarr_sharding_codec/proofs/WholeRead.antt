@@ -25,6 +25,7 @@ use Rattle.zarr_codecs_meaning.proofs.PartsOnce.{number_in}
 use Rattle.zarr_codecs_arrays.specs.declared.array_bytes.ArrayBytes.{ArrayBytes}
 use Rattle.zarr_codecs_arrays.specs.declared.error.CodecError.{CodecError}
 use Rattle.zarr_codecs_arrays.specs.declared.error.CodecError.TheVariants as error
+use Rattle.zarr_codecs_traits.specs.Arrays.{coded}
 use Rattle.zarr_codecs_traits.specs.Outcomes.{Decodes}
 use Rattle.zarr_sharding_places.specs.Locating.{inside_of, part_shape, subchunk_of}
 use Rattle.zarr_sharding_places.proofs.PartPlaces.{IsPlace, place_below, places_apart}
@@ -180,7 +181,7 @@ whole_cells chain elements shape value fit some = told (decoded chain elements s
       all ∙ ap Some (sym (fill_by_all (λ n. get_or cells n elements.fill) cells (product shape) elements.fill (decoded_count chain elements shape value cells is) (λ n low. refl)))
 
 -- what a slice of a subchunk that has places is decoded to
-pub slice_whole : (inner : Chain) (elements : Elements) (shape slice : List ℕ) (result : Result ArrayBytes CodecError) → fits inner elements.type shape ≡ true → 0 < product shape → Decodes inner elements shape slice result
+pub slice_whole : (inner : Chain) (elements : Elements) (shape slice : List ℕ) (result : Result ArrayBytes CodecError) → fits inner elements.type shape ≡ true → 0 < product shape → Decodes (coded inner elements shape) slice result
     → Lists elements shape (slice_cells inner elements shape slice (place_numbers shape)) result
 slice_whole inner elements shape slice (Ok found) fit some made = record { cells = made.cells; is = whole_cells inner elements shape slice fit some ∙ made.is; lists = made.lists }
 slice_whole inner elements shape slice (Err error.Damage) fit some made = whole_cells inner elements shape slice fit some ∙ made.1

@@ -12,6 +12,7 @@ use Rattle.zarr_codecs_arrays.specs.Outcomes.{IsValid}
 use Rattle.zarr_codecs_arrays.specs.declared.error.CodecError.{CodecError}
 use Rattle.zarr_codecs_arrays.specs.declared.error.CodecError.TheVariants as error
 use Rattle.zarr_codecs_traits.specs.Indexers.{Asked, are_inside, numbers_asked}
+use Rattle.zarr_codecs_traits.specs.Arrays.{coded, update_of}
 use Rattle.zarr_codecs_traits.specs.PartWriting.{IsEncodedInto, IsRefusedInto, PassesLength}
 use Rattle.zarr_codecs_traits.specs.Writes.{accepted_after}
 use Rattle.zarr_sharding_changes.specs.Changes.{Change, appended, pairs_after}
@@ -32,12 +33,12 @@ pub record IsTestedPart (chain : Chain) (elements : Elements) (shape : List ℕ)
 
 -- if the chain keeps every bit, the new slices of a part, put behind what is stored, would make 2^63 bytes or more
 abbrev pub LacksRoom : Chain → Elements → List ℕ → Asked → Payload → Option (List ℕ) → Type 0
-LacksRoom chain elements shape asked payload old = is_lossless chain elements.type ≡ true → IsRefusedInto chain elements shape asked payload old (PassesLength chain elements shape old)
+LacksRoom chain elements shape asked payload old = is_lossless chain elements.type ≡ true → IsRefusedInto (coded chain elements shape) (update_of asked payload old) (PassesLength chain elements shape old)
 
 -- new cells were put at the places that are asked for; or there is no room for them, and nothing was written
 abbrev pub AppendsPart : Chain → Bool → Elements → List ℕ → Asked → Payload → Option (List ℕ) → Option (List ℕ) → Bool → Type 0
 AppendsPart chain exact elements shape asked payload old new written =
-    MatchBool written ((cells : List Cell) × IsEncodedInto chain exact elements shape asked payload cells old new) ((new ≡ old) × LacksRoom chain elements shape asked payload old)
+    MatchBool written ((cells : List Cell) × IsEncodedInto (coded chain elements shape) exact (update_of asked payload old) cells new) ((new ≡ old) × LacksRoom chain elements shape asked payload old)
 
 -- changes were written; or the shard would then have 2^63 bytes or more, and nothing was written
 abbrev pub AppendsChanges : Chain → Bool → Location → List ℕ → List Change → ℕ → List Pair → Option (List ℕ) → Option (List ℕ) → Bool → Type 0

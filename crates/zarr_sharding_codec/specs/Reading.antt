@@ -14,7 +14,7 @@ use Rattle.zarr_codecs_arrays.specs.declared.error.CodecError.TheVariants as err
 use Rattle.zarr_codecs_regions.specs.Updates.{put}
 use Rattle.zarr_codecs_traits.specs.Indexers.{numbers_of}
 use Rattle.zarr_sharding_index.specs.Held.{DecodesIndex}
-use Rattle.zarr_sharding_index.specs.Views.{pairs_of}
+use Rattle.zarr_sharding_index.specs.Present.{all_pairs}
 use Rattle.zarr_sharding_index.specs.declared.held.FetchedIndex.{FetchedIndex}
 use Rattle.zarr_sharding_index.specs.declared.index.ShardIndex.{ShardIndex}
 use Rattle.zarr_sharding_places.specs.Boxed.{ShowsBoxes}
@@ -71,7 +71,7 @@ DecodesIndexOf fit index location shape value (Err e) = ⊥
 -- an index that was fetched, if one was, has so many pairs
 abbrev pub HasPairs : ℕ → Option FetchedIndex → Type 0
 HasPairs count None = Unit {0}
-HasPairs count (Some found) = length (pairs_of found.index) ≡ count
+HasPairs count (Some found) = length (all_pairs found.pairs) ≡ count
 
 -- ---- places that are read alone
 

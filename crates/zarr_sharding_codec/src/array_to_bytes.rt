@@ -5,7 +5,7 @@ use crate::decoding::Shard;
 use crate::part_writing::TestedPart;
 use std::alloc::{AllocError, Global};
 use zarr_codecs_arrays::{ArrayBytes, CodecError, Elements};
-use zarr_codecs_options::{CodecOptions, SubchunkWriteOrder};
+use zarr_codecs_options::SubchunkWriteOrder;
 use zarr_codecs_regions::{encode_whole, test_asked};
 use zarr_codecs_traits::{
     ArrayPart, ArrayToBytesCodecTraits, BytesPartialDecoderTraits, BytesPartialEncoderTraits,
@@ -21,6 +21,7 @@ impl<I: ArrayToBytesCodecTraits, X: IndexCodec> ArrayToBytesCodecTraits for Shar
     ghost use Rattle.zarr_codecs_arrays.specs.Views.{elements_of, payload_of};
     ghost use Rattle.zarr_codecs_meaning.specs.Fits.{is_lossless};
     ghost use Rattle.zarr_codecs_meaning.specs.Types.{uint64};
+    ghost use Rattle.zarr_codecs_traits.specs.Arrays.{coded};
     ghost use Rattle.zarr_codecs_traits.specs.Outcomes.{Encodes};
     ghost use Rattle.zarr_sharding_codec.specs.Gapless.{IsGapless};
     ghost use Rattle.zarr_sharding_codec.specs.Views.{index_of, makes_a_function, order_of, place_of_index, shard_chain, shard_copied, subchunk_of};
@@ -41,17 +42,16 @@ impl<I: ArrayToBytesCodecTraits, X: IndexCodec> ArrayToBytesCodecTraits for Shar
         Ok(self.suited(alloc, data_type, shape)?.is_some())
     }
 
-    fn encode(
+    fn encode_in_order(
         &self,
         alloc: Global,
         bytes: ArrayBytes,
         elements: &Elements,
         shape: &[u64],
-        options: &CodecOptions,
     ) -> Result<Vec<u8>, CodecError>
-        ensures encodes { Encodes (shard_chain I.meaning X.meaning self.now)
-            (makes_a_function I.is_function X.is_function self.now) (elements_of elements.now)
-            shape.now (payload_of bytes) result }
+        ensures encodes { Encodes (coded (shard_chain I.meaning X.meaning self.now)
+            (elements_of elements.now) shape.now) (makes_a_function I.is_function X.is_function
+            self.now) (payload_of bytes) result }
         ensures gapless { IfOk result (λ value.
             is_lossless (X.meaning (index_of self.now)) uint64 ≡ true → IsGapless
             (subchunk_of self.now) (X.meaning (index_of self.now)) (place_of_index self.now)
@@ -68,26 +68,25 @@ impl<I: ArrayToBytesCodecTraits, X: IndexCodec> ArrayToBytesCodecTraits for Shar
             return Err(error);
         }
         let array = WholeArray { elements, shape };
-        self.encode_valid(alloc, &bytes, array, size, options)
+        self.encode_valid(alloc, &bytes, array, size)
     }
 
-    fn decode(
+    fn decode_in_order(
         &self,
         alloc: Global,
         value: Vec<u8>,
         elements: &Elements,
         shape: &[u64],
-        options: &CodecOptions,
     ) -> Result<ArrayBytes, CodecError> {
         let Some(size) = self.suited(alloc, elements.data_type(), shape)? else {
             return Err(CodecError::Fit);
         };
         let value = value.as_slice();
-        match self.index_in(alloc, value, shape, size, options) {
+        match self.index_in(alloc, value, shape, size) {
             Ok(index) => {
                 let index = &index;
                 let array = WholeArray { elements, shape };
-                self.decode_pieces(alloc, Shard { value, index }, array, options)
+                self.decode_pieces(alloc, Shard { value, index }, array)
             }
             Err(error) => Err(error),
         }
@@ -121,12 +120,11 @@ impl<I: ArrayToBytesCodecTraits, X: IndexCodec> ArrayToBytesCodecTraits for Shar
         self.subchunk_shape.as_slice().to_vec(alloc)
     }
 
-    fn partial_decode<D: BytesPartialDecoderTraits>(
+    fn partial_decode_in_order<D: BytesPartialDecoderTraits>(
         &self,
         alloc: Global,
         source: &mut D,
         part: ArrayPart<'_>,
-        options: &CodecOptions,
     ) -> Result<ArrayBytes, CodecError> {
         let Some(size) = self.suited(alloc, part.elements.data_type(), part.shape)? else {
             return Err(CodecError::Fit);
@@ -137,7 +135,7 @@ impl<I: ArrayToBytesCodecTraits, X: IndexCodec> ArrayToBytesCodecTraits for Shar
         if let Err(error) = test_asked(part.shape, part.indexer) {
             return Err(error);
         }
-        self.read_part(alloc, source, size, part, options)
+        self.read_part(alloc, source, size, part)
     }
 
     fn takes_patches(&self, _: &DataType) -> bool {
@@ -149,18 +147,16 @@ impl<I: ArrayToBytesCodecTraits, X: IndexCodec> ArrayToBytesCodecTraits for Shar
         _: Global,
         _: ArrayBytes,
         _: ArrayPart<'_>,
-        _: &CodecOptions,
     ) -> Result<Option<ValuePatches>, CodecError> {
         Ok(None)
     }
 
-    fn partial_encode<E: BytesPartialEncoderTraits>(
+    fn partial_encode_in_order<E: BytesPartialEncoderTraits>(
         &self,
         alloc: Global,
         source: &mut E,
         bytes: ArrayBytes,
         part: ArrayPart<'_>,
-        options: &CodecOptions,
     ) -> Result<(), CodecError> {
         let size = match self.test_part(alloc, &bytes, part) {
             Ok(size) => size,
@@ -170,20 +166,19 @@ impl<I: ArrayToBytesCodecTraits, X: IndexCodec> ArrayToBytesCodecTraits for Shar
             size,
             bytes: &bytes,
         };
-        match self.append_part(alloc, source, tested, part, options) {
+        match self.append_part(alloc, source, tested, part) {
             Ok(true) => Ok(()),
-            Ok(false) => encode_whole(self, alloc, source, bytes, part, options),
+            Ok(false) => encode_whole(self, alloc, source, bytes, part),
             Err(error) => Err(error),
         }
     }
 
-    fn compact(
+    fn compact_in_order(
         &self,
         alloc: Global,
         value: &[u8],
         elements: &Elements,
         shape: &[u64],
-        options: &CodecOptions,
     ) -> Result<Option<Vec<u8>>, CodecError> {
         let Some(size) = self.suited(alloc, elements.data_type(), shape)? else {
             return Err(CodecError::Fit);
@@ -194,7 +189,7 @@ impl<I: ArrayToBytesCodecTraits, X: IndexCodec> ArrayToBytesCodecTraits for Shar
             index_location: self.index_location,
             index_size: size,
         };
-        compact_shard(alloc, &self.index_codecs, layout, value, options)
+        compact_shard(alloc, &self.index_codecs, layout, value)
     }
 
     fn try_clone(&self, alloc: Global) -> Result<ShardingCodec<I, X>, AllocError>

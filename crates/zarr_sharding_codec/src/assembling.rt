@@ -4,7 +4,6 @@ use crate::codec::ShardingCodec;
 use crate::slices::join;
 use std::alloc::Global;
 use zarr_codecs_arrays::CodecError;
-use zarr_codecs_options::CodecOptions;
 use zarr_codecs_traits::ArrayToBytesCodecTraits;
 use zarr_sharding_index::ShardIndex;
 use zarr_sharding_index::stored::write_index;
@@ -25,7 +24,6 @@ impl<I: ArrayToBytesCodecTraits, X: ArrayToBytesCodecTraits> ShardingCodec<I, X>
         data: Vec<u8>,
         index: ShardIndex,
         pairs_shape: &[u64],
-        options: &CodecOptions,
     ) -> Result<Vec<u8>, CodecError>
         requires fit { index_fits (X.meaning (index_of self.now)) pairs_shape.now ≡ true }
         requires many { product pairs_shape.now ≡ 2 * length (pairs_of index) }
@@ -35,7 +33,7 @@ impl<I: ArrayToBytesCodecTraits, X: ArrayToBytesCodecTraits> ShardingCodec<I, X>
             → Assembles (X.meaning (index_of self.now)) (X.is_function (index_of self.now))
             (place_of_index self.now) pairs_shape.now stored result }
     {
-        match write_index(alloc, &self.index_codecs, index, pairs_shape, options) {
+        match write_index(alloc, &self.index_codecs, index, pairs_shape) {
             Ok(stored) => Ok(join(self.index_location, stored, data)?),
             Err(error) => Err(error),
         }

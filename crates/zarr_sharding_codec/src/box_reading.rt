@@ -9,7 +9,6 @@ use crate::subchunks::{CutArray, subchunk_number, subchunk_region};
 use crate::updating::NumberedSubchunk;
 use std::alloc::{AllocError, Global};
 use zarr_codecs_arrays::{ArrayBytes, CodecError};
-use zarr_codecs_options::CodecOptions;
 use zarr_codecs_regions::{is_inside, numbers_asked};
 use zarr_codecs_traits::{ArrayToBytesCodecTraits, BytesPartialDecoderTraits, Indexer, WholeArray};
 use zarr_grids_boxes::ArraySubset;
@@ -62,7 +61,7 @@ impl<I: ArrayToBytesCodecTraits, X: ArrayToBytesCodecTraits> ShardingCodec<I, X>
     ghost use Rattle.zarr_sharding_codec.specs.BytesMet.{bytes_met};
     ghost use Rattle.zarr_sharding_codec.specs.Reading.{IsTotalOf, ListsRead, places_decoded, shard_cells};
     ghost use Rattle.zarr_sharding_codec.specs.Views.{inner_of, shard_chain, subchunk_of};
-    ghost use Rattle.zarr_sharding_index.specs.Views.{pairs_of};
+    ghost use Rattle.zarr_sharding_index.specs.Present.{all_pairs};
     ghost use Rattle.zarr_sharding_state.specs.States.{slice_length};
 
     /// The elements at the places that are asked for, which are the array's, of the shard that a
@@ -75,37 +74,36 @@ impl<I: ArrayToBytesCodecTraits, X: ArrayToBytesCodecTraits> ShardingCodec<I, X>
         source: &mut D,
         shard: OpenedShard<'_>,
         asked: IndexedPlaces<'_>,
-        options: &CodecOptions,
     ) -> Result<ArrayBytes, CodecError>
         requires fit { fits (shard_chain I.meaning X.meaning self.now)
             (elements_of shard.elements.now).type asked.shape.now ≡ true }
-        requires many { length (pairs_of shard.index.now)
+        requires many { length (all_pairs shard.pairs.now)
             ≡ length (parts_of asked.shape.now (subchunk_of self.now)) }
         requires inside { are_inside asked.shape.now (asked_of asked.indexer) ≡ true }
         requires small { product asked.shape.now < 2 ^ 63 }
         ensures part { IsTrue (D.is_honest source.old) → IsTotalOf (D.contents source.old)
-            (pairs_of shard.entry.index.now) shard.entry.total
+            (all_pairs shard.entry.pairs.now) shard.entry.total
             → ListsRead (elements_of shard.entry.elements.now) asked.entry.shape.now
             (shard_cells (I.meaning (inner_of self.now)) (elements_of shard.entry.elements.now)
             asked.entry.shape.now (subchunk_of self.now) (unwrap_or (D.contents source.old) [])
-            (pairs_of shard.entry.index.now)
+            (all_pairs shard.entry.pairs.now)
             (numbers_asked asked.entry.shape.now (asked_of asked.entry.indexer))) result }
         ensures refused { D.refused_calls source.new ≡
             refused_after (D.refused_calls source.old) result }
         ensures given { IsTrue (D.is_honest source.old) → D.given_bytes source.new
             ≤ D.given_bytes source.old + bytes_met asked.entry.shape.now (subchunk_of self.now)
             (numbers_asked asked.entry.shape.now (asked_of asked.entry.indexer))
-            (pairs_of shard.entry.index.now) }
+            (all_pairs shard.entry.pairs.now) }
         ensures follows { D.follows source.old source.new }
     {
         let shape = asked.shape;
         match asked.indexer {
             Indexer::Subset(region) => {
-                self.read_box(alloc, source, shard, AskedBox { shape, region }, options)
+                self.read_box(alloc, source, shard, AskedBox { shape, region })
             }
             Indexer::List(numbers) => {
                 let listed = NumberedPlaces { shape, numbers };
-                self.read_numbers(alloc, source, shard, listed, options)
+                self.read_numbers(alloc, source, shard, listed)
             }
         }
     }
@@ -117,26 +115,25 @@ impl<I: ArrayToBytesCodecTraits, X: ArrayToBytesCodecTraits> ShardingCodec<I, X>
         source: &mut D,
         shard: OpenedShard<'_>,
         asked: AskedBox<'_>,
-        options: &CodecOptions,
     ) -> Result<ArrayBytes, CodecError>
         requires fit { fits (shard_chain I.meaning X.meaning self.now)
             (elements_of shard.elements.now).type asked.shape.now ≡ true }
-        requires many { length (pairs_of shard.index.now)
+        requires many { length (all_pairs shard.pairs.now)
             ≡ length (parts_of asked.shape.now (subchunk_of self.now)) }
         requires inside { shape_has asked.shape.now (region_of asked.region.now) ≡ true }
         ensures part { IsTrue (D.is_honest source.old) → IsTotalOf (D.contents source.old)
-            (pairs_of shard.entry.index.now) shard.entry.total
+            (all_pairs shard.entry.pairs.now) shard.entry.total
             → ListsRead (elements_of shard.entry.elements.now) asked.entry.shape.now
             (shard_cells (I.meaning (inner_of self.now)) (elements_of shard.entry.elements.now)
             asked.entry.shape.now (subchunk_of self.now) (unwrap_or (D.contents source.old) [])
-            (pairs_of shard.entry.index.now)
+            (all_pairs shard.entry.pairs.now)
             (numbers_of asked.entry.shape.now (region_of asked.entry.region.now))) result }
         ensures refused { D.refused_calls source.new ≡
             refused_after (D.refused_calls source.old) result }
         ensures given { IsTrue (D.is_honest source.old) → D.given_bytes source.new
             ≤ D.given_bytes source.old + bytes_met asked.entry.shape.now (subchunk_of self.now)
             (numbers_of asked.entry.shape.now (region_of asked.entry.region.now))
-            (pairs_of shard.entry.index.now) }
+            (all_pairs shard.entry.pairs.now) }
         ensures follows { D.follows source.old source.new }
     {
         if let Some(number) = self.subchunk_of_box(asked.shape, asked.region) {
@@ -144,11 +141,11 @@ impl<I: ArrayToBytesCodecTraits, X: ArrayToBytesCodecTraits> ShardingCodec<I, X>
                 number: number as usize,
                 shape: asked.region.shape(),
             };
-            return self.read_whole(alloc, source, shard, found, options);
+            return self.read_whole(alloc, source, shard, found);
         }
         match self.subchunk_around(alloc, asked.shape, asked.region)? {
-            Some(found) => self.read_inside(alloc, source, shard, &found, options),
-            None => self.read_cuts(alloc, source, shard, asked, options),
+            Some(found) => self.read_inside(alloc, source, shard, &found),
+            None => self.read_cuts(alloc, source, shard, asked),
         }
     }
 
@@ -159,26 +156,25 @@ impl<I: ArrayToBytesCodecTraits, X: ArrayToBytesCodecTraits> ShardingCodec<I, X>
         source: &mut D,
         shard: OpenedShard<'_>,
         asked: AskedBox<'_>,
-        options: &CodecOptions,
     ) -> Result<ArrayBytes, CodecError>
         requires fit { fits (shard_chain I.meaning X.meaning self.now)
             (elements_of shard.elements.now).type asked.shape.now ≡ true }
-        requires many { length (pairs_of shard.index.now)
+        requires many { length (all_pairs shard.pairs.now)
             ≡ length (parts_of asked.shape.now (subchunk_of self.now)) }
         requires inside { shape_has asked.shape.now (region_of asked.region.now) ≡ true }
         ensures part { IsTrue (D.is_honest source.old) → IsTotalOf (D.contents source.old)
-            (pairs_of shard.entry.index.now) shard.entry.total
+            (all_pairs shard.entry.pairs.now) shard.entry.total
             → ListsRead (elements_of shard.entry.elements.now) asked.entry.shape.now
             (shard_cells (I.meaning (inner_of self.now)) (elements_of shard.entry.elements.now)
             asked.entry.shape.now (subchunk_of self.now) (unwrap_or (D.contents source.old) [])
-            (pairs_of shard.entry.index.now)
+            (all_pairs shard.entry.pairs.now)
             (numbers_of asked.entry.shape.now (region_of asked.entry.region.now))) result }
         ensures refused { D.refused_calls source.new ≡
             refused_after (D.refused_calls source.old) result }
         ensures given { IsTrue (D.is_honest source.old) → D.given_bytes source.new
             ≤ D.given_bytes source.old + bytes_met asked.entry.shape.now (subchunk_of self.now)
             (numbers_of asked.entry.shape.now (region_of asked.entry.region.now))
-            (pairs_of shard.entry.index.now) }
+            (all_pairs shard.entry.pairs.now) }
         ensures follows { D.follows source.old source.new }
     {
         let lengths = asked.region.shape();
@@ -195,7 +191,7 @@ impl<I: ArrayToBytesCodecTraits, X: ArrayToBytesCodecTraits> ShardingCodec<I, X>
         let mut all = filled;
         for j in 0..met.len() {
             let cut = self.cut_at(alloc, asked.shape, asked.region, met[j])?;
-            match self.read_inside(alloc, source, shard, &cut.inside, options) {
+            match self.read_inside(alloc, source, shard, &cut.inside) {
                 Ok(piece) => all = all.put(alloc, array, &cut.target, &piece)?,
                 Err(error) => return Err(error),
             }
@@ -211,28 +207,27 @@ impl<I: ArrayToBytesCodecTraits, X: ArrayToBytesCodecTraits> ShardingCodec<I, X>
         source: &mut D,
         shard: OpenedShard<'_>,
         found: &BoxInside,
-        options: &CodecOptions,
     ) -> Result<ArrayBytes, CodecError>
         requires fit { fits (I.meaning (inner_of self.now)) (elements_of shard.elements.now).type
             found.now.shape.items ≡ true }
-        requires pair { found.now.number < length (pairs_of shard.index.now) }
+        requires pair { found.now.number < length (all_pairs shard.pairs.now) }
         requires inside { shape_has found.now.shape.items (region_of found.now.region) ≡ true }
         requires some { 0 < product (region_of found.now.region).shape }
         ensures part { IsTrue (D.is_honest source.old) → IsTotalOf (D.contents source.old)
-            (pairs_of shard.entry.index.now) shard.entry.total
+            (all_pairs shard.entry.pairs.now) shard.entry.total
             → ListsRead (elements_of shard.entry.elements.now) found.now.shape.items
             (places_decoded (I.meaning (inner_of self.now)) (elements_of shard.entry.elements.now)
             (unwrap_or (D.contents source.old) []) found.now.shape.items
-            (get_or (pairs_of shard.entry.index.now) found.now.number absent_pair)
+            (get_or (all_pairs shard.entry.pairs.now) found.now.number absent_pair)
             (numbers_of found.now.shape.items (region_of found.now.region))) result }
         ensures refused { D.refused_calls source.new ≡
             refused_after (D.refused_calls source.old) result }
         ensures given { IsTrue (D.is_honest source.old) → D.given_bytes source.new
             ≤ D.given_bytes source.old
-            + slice_length (get_or (pairs_of shard.entry.index.now) found.now.number absent_pair) }
+            + slice_length (get_or (all_pairs shard.entry.pairs.now) found.now.number absent_pair) }
         ensures follows { D.follows source.old source.new }
     {
-        let pair = shard.index.get(found.number as usize);
+        let pair = shard.pairs.get(found.number as usize);
         let region = &found.region;
         if is_absent(pair) {
             let Some(count) = count_places(region.shape()) else {
@@ -244,7 +239,7 @@ impl<I: ArrayToBytesCodecTraits, X: ArrayToBytesCodecTraits> ShardingCodec<I, X>
             Ok(slice) => {
                 let shape = found.shape.as_slice();
                 let indexer = Indexer::Subset(region);
-                self.read_slice(alloc, slice, indexer, shape, shard.elements, options)
+                self.read_slice(alloc, slice, indexer, shape, shard.elements)
             }
             Err(error) => Err(error),
         }
@@ -258,29 +253,28 @@ impl<I: ArrayToBytesCodecTraits, X: ArrayToBytesCodecTraits> ShardingCodec<I, X>
         source: &mut D,
         shard: OpenedShard<'a>,
         found: NumberedSubchunk<'a>,
-        options: &CodecOptions,
     ) -> Result<ArrayBytes, CodecError>
         requires fit { fits (I.meaning (inner_of self.now)) (elements_of shard.elements.now).type
             found.shape.now ≡ true }
-        requires pair { found.number < length (pairs_of shard.index.now) }
+        requires pair { found.number < length (all_pairs shard.pairs.now) }
         requires some { 0 < product found.shape.now }
         ensures part { IsTrue (D.is_honest source.old) → IsTotalOf (D.contents source.old)
-            (pairs_of shard.entry.index.now) shard.entry.total
+            (all_pairs shard.entry.pairs.now) shard.entry.total
             → ListsRead (elements_of shard.entry.elements.now) found.entry.shape.now
             (places_decoded (I.meaning (inner_of self.now)) (elements_of shard.entry.elements.now)
             (unwrap_or (D.contents source.old) []) found.entry.shape.now
-            (get_or (pairs_of shard.entry.index.now) found.entry.number absent_pair)
+            (get_or (all_pairs shard.entry.pairs.now) found.entry.number absent_pair)
             (place_numbers found.entry.shape.now)) result }
         ensures refused { D.refused_calls source.new ≡
             refused_after (D.refused_calls source.old) result }
         ensures given { IsTrue (D.is_honest source.old) → D.given_bytes source.new
             ≤ D.given_bytes source.old + slice_length
-            (get_or (pairs_of shard.entry.index.now) found.entry.number absent_pair) }
+            (get_or (all_pairs shard.entry.pairs.now) found.entry.number absent_pair) }
         ensures follows { D.follows source.old source.new }
     {
         let shape = found.shape;
         let elements = shard.elements;
-        let pair = shard.index.get(found.number);
+        let pair = shard.pairs.get(found.number);
         if is_absent(pair) {
             let Some(count) = count_places(shape) else {
                 return Err(CodecError::Memory);
@@ -288,7 +282,7 @@ impl<I: ArrayToBytesCodecTraits, X: ArrayToBytesCodecTraits> ShardingCodec<I, X>
             return Ok(fill_elements(alloc, elements, count as usize)?);
         }
         match fetch_slice(alloc, source, shard.total, pair) {
-            Ok(slice) => self.decode_slice(alloc, slice, WholeArray { elements, shape }, options),
+            Ok(slice) => self.decode_slice(alloc, slice, WholeArray { elements, shape }),
             Err(error) => Err(error),
         }
     }

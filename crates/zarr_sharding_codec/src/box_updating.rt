@@ -17,7 +17,6 @@ use crate::subchunks::take_box;
 use crate::updating::{NumberedSubchunk, ShardInSource};
 use std::alloc::{AllocError, Global};
 use zarr_codecs_arrays::{ArrayBytes, CodecError, Elements};
-use zarr_codecs_options::CodecOptions;
 use zarr_codecs_regions::update_array_bytes;
 use zarr_codecs_traits::{ArrayToBytesCodecTraits, BytesPartialDecoderTraits, Indexer, WholeArray};
 use zarr_grids_boxes::ArraySubset;
@@ -69,7 +68,6 @@ impl<I: ArrayToBytesCodecTraits, X: ArrayToBytesCodecTraits> ShardingCodec<I, X>
         source: &mut D,
         shard: ShardInSource<'_>,
         given: BoxElements<'_>,
-        options: &CodecOptions,
     ) -> Result<Vec<SliceChange>, CodecError>
         requires fit { fits (shard_chain I.meaning X.meaning self.now)
             (elements_of shard.elements.now).type given.shape.now ≡ true }
@@ -111,7 +109,7 @@ impl<I: ArrayToBytesCodecTraits, X: ArrayToBytesCodecTraits> ShardingCodec<I, X>
                 cut,
                 bytes,
             };
-            match self.update_cut(alloc, source, shard, part, options) {
+            match self.update_cut(alloc, source, shard, part) {
                 Ok(change) => changes.push(change)?,
                 Err(error) => return Err(error),
             }
@@ -126,7 +124,6 @@ impl<I: ArrayToBytesCodecTraits, X: ArrayToBytesCodecTraits> ShardingCodec<I, X>
         source: &mut D,
         shard: ShardInSource<'_>,
         given: CutElements<'_>,
-        options: &CodecOptions,
     ) -> Result<SliceChange, CodecError>
         requires fit { fits (I.meaning (inner_of self.now)) (elements_of shard.elements.now).type
             given.cut.now.inside.shape.items ≡ true }
@@ -157,10 +154,10 @@ impl<I: ArrayToBytesCodecTraits, X: ArrayToBytesCodecTraits> ShardingCodec<I, X>
         let elements = shard.elements;
         let shape = inside.shape.as_slice();
         let subchunk = NumberedSubchunk { number, shape };
-        match self.read_subchunk(alloc, source, shard, subchunk, options) {
+        match self.read_subchunk(alloc, source, shard, subchunk) {
             Ok(piece) => {
                 let updated = put_cut(alloc, piece, given, elements)?;
-                match store_piece(alloc, &self.inner_codecs, updated, elements, shape, options) {
+                match store_piece(alloc, &self.inner_codecs, updated, elements, shape) {
                     Ok(slice) => Ok(SliceChange { number, slice }),
                     Err(error) => Err(error),
                 }

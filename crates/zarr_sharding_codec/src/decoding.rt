@@ -6,7 +6,6 @@ use crate::codec::ShardingCodec;
 use crate::subchunks::{CutArray, first_place, move_to_subchunk};
 use std::alloc::Global;
 use zarr_codecs_arrays::{ArrayBytes, CodecError, Elements};
-use zarr_codecs_options::CodecOptions;
 use zarr_codecs_traits::{ArrayToBytesCodecTraits, WholeArray};
 use zarr_codecs_types::DataType;
 use zarr_grids_boxes::ArraySubset;
@@ -56,7 +55,6 @@ impl<I: ArrayToBytesCodecTraits, X: ArrayToBytesCodecTraits> ShardingCodec<I, X>
         value: &[u8],
         data_type: &DataType,
         shape: &[u64],
-        options: &CodecOptions,
     ) -> Result<ShardIndex, CodecError>
         ensures { DecodesIndexOf (fits (shard_chain I.meaning X.meaning self.now)
             (type_of data_type.now) shape.now) (X.meaning (index_of self.now))
@@ -66,7 +64,7 @@ impl<I: ArrayToBytesCodecTraits, X: ArrayToBytesCodecTraits> ShardingCodec<I, X>
         let Some(size) = self.suited(alloc, data_type, shape)? else {
             return Err(CodecError::Fit);
         };
-        self.index_in(alloc, value, shape, size, options)
+        self.index_in(alloc, value, shape, size)
     }
 
     /// The index that a shard holds, which has so many bytes; this is the shape of the array.
@@ -76,7 +74,6 @@ impl<I: ArrayToBytesCodecTraits, X: ArrayToBytesCodecTraits> ShardingCodec<I, X>
         value: &[u8],
         shape: &[u64],
         size: u64,
-        options: &CodecOptions,
     ) -> Result<ShardIndex, CodecError>
         requires rank { length shape.now ≡ length (subchunk_of self.now) }
         requires fit { index_fits (X.meaning (index_of self.now))
@@ -94,7 +91,7 @@ impl<I: ArrayToBytesCodecTraits, X: ArrayToBytesCodecTraits> ShardingCodec<I, X>
             shape,
             size,
         };
-        decode_index(alloc, &self.index_codecs, value, layout, options)
+        decode_index(alloc, &self.index_codecs, value, layout)
     }
 
     /// The elements of the array of a shard. `Damage` where a present pair ends past the end of the
@@ -104,7 +101,6 @@ impl<I: ArrayToBytesCodecTraits, X: ArrayToBytesCodecTraits> ShardingCodec<I, X>
         alloc: Global,
         shard: Shard<'_>,
         array: WholeArray<'_>,
-        options: &CodecOptions,
     ) -> Result<ArrayBytes, CodecError>
         requires fit { fits (shard_chain I.meaning X.meaning self.now)
             (elements_of array.elements.now).type array.shape.now ≡ true }
@@ -142,7 +138,7 @@ impl<I: ArrayToBytesCodecTraits, X: ArrayToBytesCodecTraits> ShardingCodec<I, X>
                 number: n as usize,
                 region: &moved,
             };
-            match self.put_piece(alloc, all, shard, place, options) {
+            match self.put_piece(alloc, all, shard, place) {
                 Ok(made) => all = made,
                 Err(error) => return Err(error),
             }
@@ -153,14 +149,13 @@ impl<I: ArrayToBytesCodecTraits, X: ArrayToBytesCodecTraits> ShardingCodec<I, X>
 
     /// The elements of the array of a shard after those of one subchunk were put over the ones of
     /// its box: straight from the value where its slice is these as they stand in memory. Errors as
-    /// those of `decode_piece`.
+    /// those of `decode_subchunk`.
     fn put_piece(
         &self,
         alloc: Global,
         all: BoxedElements,
         shard: Shard<'_>,
         place: PiecePlace<'_>,
-        options: &CodecOptions,
     ) -> Result<BoxedElements, CodecError>
         requires fit { fits (I.meaning (inner_of self.now))
             (elements_of place.array.elements.now).type (region_of place.region.now).shape
@@ -181,7 +176,7 @@ impl<I: ArrayToBytesCodecTraits, X: ArrayToBytesCodecTraits> ShardingCodec<I, X>
         if let Some(slice) = self.slice_as_is(shard.value, pair, subchunk) {
             return Ok(all.put_bytes(alloc, place.array, place.region, slice)?);
         }
-        match self.decode_piece(alloc, shard, place.number, subchunk, options) {
+        match self.decode_subchunk(alloc, shard, place.number, subchunk) {
             Ok(piece) => Ok(all.put(alloc, place.array, place.region, &piece)?),
             Err(error) => Err(error),
         }
@@ -189,13 +184,12 @@ impl<I: ArrayToBytesCodecTraits, X: ArrayToBytesCodecTraits> ShardingCodec<I, X>
 
     /// The elements of the subchunk with this number: fill values where it is absent. `Damage`
     /// where its pair ends past the end of the value, or its slice is not one of the inner codecs'.
-    fn decode_piece(
+    fn decode_subchunk(
         &self,
         alloc: Global,
         shard: Shard<'_>,
         n: usize,
         subchunk: WholeArray<'_>,
-        options: &CodecOptions,
     ) -> Result<ArrayBytes, CodecError>
         requires fit { fits (I.meaning (inner_of self.now))
             (elements_of subchunk.elements.now).type subchunk.shape.now ≡ true }
@@ -216,7 +210,7 @@ impl<I: ArrayToBytesCodecTraits, X: ArrayToBytesCodecTraits> ShardingCodec<I, X>
         };
         let slice = slice.to_vec(alloc)?;
         self.inner_codecs
-            .decode(alloc, slice, elements, shape, options)
+            .decode_in_order(alloc, slice, elements, shape)
     }
 }
 

@@ -3,7 +3,6 @@
 use crate::codec::ShardingCodec;
 use std::alloc::Global;
 use zarr_codecs_arrays::{ArrayBytes, CodecError};
-use zarr_codecs_options::CodecOptions;
 use zarr_codecs_traits::{ArrayToBytesCodecTraits, WholeArray};
 use zarr_sharding_index::shapes::index_shape;
 
@@ -13,6 +12,7 @@ impl<I: ArrayToBytesCodecTraits, X: ArrayToBytesCodecTraits> ShardingCodec<I, X>
     ghost use Rattle.zarr_codecs_arrays.specs.Views.{elements_of, payload_of};
     ghost use Rattle.zarr_codecs_meaning.specs.Fits.{fits, is_lossless};
     ghost use Rattle.zarr_codecs_meaning.specs.Types.{Cell, uint64};
+    ghost use Rattle.zarr_codecs_traits.specs.Arrays.{coded_array};
     ghost use Rattle.zarr_codecs_traits.specs.Outcomes.{Encodes};
     ghost use Rattle.zarr_grids_boxes.specs.Boxes.{product};
     ghost use Rattle.zarr_sharding_codec.specs.Fitting.{index_length};
@@ -27,7 +27,6 @@ impl<I: ArrayToBytesCodecTraits, X: ArrayToBytesCodecTraits> ShardingCodec<I, X>
         bytes: &ArrayBytes,
         array: WholeArray<'_>,
         size: u64,
-        options: &CodecOptions,
     ) -> Result<Vec<u8>, CodecError>
         requires fit { fits (shard_chain I.meaning X.meaning self.now)
             (elements_of array.elements.now).type array.shape.now ≡ true }
@@ -35,19 +34,18 @@ impl<I: ArrayToBytesCodecTraits, X: ArrayToBytesCodecTraits> ShardingCodec<I, X>
             array.shape.now }
         requires valid { (cells : List Cell) × IsValid (elements_of array.elements.now).type
             (payload_of bytes.now) (product array.shape.now) cells }
-        ensures encodes { Encodes (shard_chain I.meaning X.meaning self.now)
-            (makes_a_function I.is_function X.is_function self.now)
-            (elements_of array.entry.elements.now) array.entry.shape.now (payload_of bytes.now)
-            result }
+        ensures encodes { Encodes (coded_array (shard_chain I.meaning X.meaning self.now)
+            array.entry) (makes_a_function I.is_function X.is_function self.now)
+            (payload_of bytes.now) result }
         ensures gapless { IfOk result (λ value.
             is_lossless (X.meaning (index_of self.now)) uint64 ≡ true → IsGapless
             (subchunk_of self.now) (X.meaning (index_of self.now)) (place_of_index self.now)
             array.entry.shape.now value.items) }
     {
-        match self.store_pieces(alloc, bytes, array, size, options) {
+        match self.store_pieces(alloc, bytes, array, size) {
             Ok((data, index)) => {
                 let pairs_shape = index_shape(alloc, array.shape, &self.subchunk_shape)?;
-                self.assemble(alloc, data, index, pairs_shape.as_slice(), options)
+                self.assemble(alloc, data, index, pairs_shape.as_slice())
             }
             Err(error) => Err(error),
         }

@@ -4,7 +4,6 @@ use crate::codec::ShardingCodec;
 use crate::updating::{AskedElements, ShardInSource};
 use std::alloc::Global;
 use zarr_codecs_arrays::{ArrayBytes, CodecError};
-use zarr_codecs_options::CodecOptions;
 use zarr_codecs_regions::{count_asked, test_asked};
 use zarr_codecs_traits::{ArrayPart, ArrayToBytesCodecTraits, BytesPartialEncoderTraits};
 use zarr_grids_boxes::walk::count_places;
@@ -26,6 +25,7 @@ impl<I: ArrayToBytesCodecTraits, X: ArrayToBytesCodecTraits> ShardingCodec<I, X>
     ghost use Rattle.zarr_codecs_arrays.specs.Views.{elements_of, payload_of};
     ghost use Rattle.zarr_codecs_meaning.specs.Encoding.{index_size};
     ghost use Rattle.zarr_codecs_traits.specs.Indexers.{asked_of, numbers_asked};
+    ghost use Rattle.zarr_codecs_traits.specs.Arrays.{coded_part, update_part};
     ghost use Rattle.zarr_codecs_traits.specs.PartWriting.{IsPlaced, NotEncodedInto};
     ghost use Rattle.zarr_codecs_traits.specs.Sources.{refused_after};
     ghost use Rattle.zarr_grids_boxes.specs.Boxes.{product};
@@ -54,9 +54,8 @@ impl<I: ArrayToBytesCodecTraits, X: ArrayToBytesCodecTraits> ShardingCodec<I, X>
             part.entry.shape.now (asked_of part.entry.indexer) (payload_of bytes.now) size
             (numbers_asked part.entry.shape.now (asked_of part.entry.indexer))) }
         ensures cause { (stored : Option (List ℕ)) → NotEncodedInto
-            (shard_chain I.meaning X.meaning self.now) (elements_of part.entry.elements.now)
-            part.entry.shape.now (asked_of part.entry.indexer) (payload_of bytes.now) stored
-            result }
+            (coded_part (shard_chain I.meaning X.meaning self.now) part.entry)
+            (update_part part.entry bytes.now stored) result }
         ensures no_source { (count : ℕ) → refused_after count result ≡ count }
     {
         let data_type = part.elements.data_type();
@@ -88,7 +87,6 @@ impl<I: ArrayToBytesCodecTraits, X: ArrayToBytesCodecTraits> ShardingCodec<I, X>
         source: &mut E,
         tested: TestedPart<'_>,
         part: ArrayPart<'_>,
-        options: &CodecOptions,
     ) -> Result<bool, CodecError>
         requires tested { IsTestedPart (shard_chain I.meaning X.meaning self.now)
             (elements_of part.elements.now) part.shape.now (asked_of part.indexer)
@@ -107,9 +105,8 @@ impl<I: ArrayToBytesCodecTraits, X: ArrayToBytesCodecTraits> ShardingCodec<I, X>
         ensures err { IsTrue (E.is_honest source.old) →
             OnErr result (E.contents source.new ≡ E.contents source.old) }
         ensures cause { IsTrue (E.is_honest source.old) → NotEncodedInto
-            (shard_chain I.meaning X.meaning self.now) (elements_of part.entry.elements.now)
-            part.entry.shape.now (asked_of part.entry.indexer) (payload_of tested.entry.bytes.now)
-            (E.contents source.old) result }
+            (coded_part (shard_chain I.meaning X.meaning self.now) part.entry)
+            (update_part part.entry tested.entry.bytes.now (E.contents source.old)) result }
         ensures refused { E.refused_calls source.new ≡
             refused_after (E.refused_calls source.old) result }
         ensures accepted { E.accepted_writes source.new ≡
@@ -123,7 +120,7 @@ impl<I: ArrayToBytesCodecTraits, X: ArrayToBytesCodecTraits> ShardingCodec<I, X>
             size: tested.size,
         };
         let bytes = tested.bytes.try_clone(alloc)?;
-        match KnownShard::open(alloc, source, &self.index_codecs, layout, options) {
+        match KnownShard::open(alloc, source, &self.index_codecs, layout) {
             Ok(known) => {
                 let shard = ShardInSource {
                     known: &known,
@@ -135,10 +132,10 @@ impl<I: ArrayToBytesCodecTraits, X: ArrayToBytesCodecTraits> ShardingCodec<I, X>
                     indexer: part.indexer,
                     bytes,
                 };
-                match self.update_asked(alloc, source, shard, given, options) {
+                match self.update_asked(alloc, source, shard, given) {
                     Ok(changes) => {
                         let given = GivenChanges { layout, changes };
-                        self.append_changes(alloc, source, known, given, options)
+                        self.append_changes(alloc, source, known, given)
                     }
                     Err(error) => Err(error),
                 }
@@ -155,7 +152,6 @@ impl<I: ArrayToBytesCodecTraits, X: ArrayToBytesCodecTraits> ShardingCodec<I, X>
         source: &mut E,
         known: KnownShard,
         given: GivenChanges<'_>,
-        options: &CodecOptions,
     ) -> Result<bool, CodecError>
         requires fit { index_fits (X.meaning (index_of self.now)) given.layout.shape.now ≡ true }
         requires size { given.layout.size ≡ index_size (X.meaning (index_of self.now))
@@ -187,7 +183,7 @@ impl<I: ArrayToBytesCodecTraits, X: ArrayToBytesCodecTraits> ShardingCodec<I, X>
             return Ok(false);
         }
         let mut known = known;
-        match known.write_given(alloc, source, &self.index_codecs, given, options) {
+        match known.write_given(alloc, source, &self.index_codecs, given) {
             Ok(()) => Ok(true),
             Err(error) => Err(error),
         }

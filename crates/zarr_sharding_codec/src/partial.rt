@@ -15,7 +15,6 @@ use crate::subchunks::part_shape;
 use crate::whole_subchunk::are_equal;
 use std::alloc::{AllocError, Global};
 use zarr_codecs_arrays::{ArrayBytes, CodecError, Elements};
-use zarr_codecs_options::CodecOptions;
 use zarr_codecs_regions::count_asked;
 use zarr_codecs_traits::{
     ArrayPart, ArrayToBytesCodecTraits, BytesPartialDecoderTraits, Indexer, MemorySource,
@@ -25,16 +24,16 @@ use zarr_grids_boxes::walk::count_places;
 use zarr_sharding_index::held::{fetch_index, fetch_slice};
 use zarr_sharding_index::pair::is_absent;
 use zarr_sharding_index::shapes::{grid_of, index_shape};
-use zarr_sharding_index::{FetchedIndex, IndexLayout, ShardIndex};
+use zarr_sharding_index::{FetchedIndex, IndexLayout, PresentPairs};
 use zarr_sharding_places::{
     AskedPlace, PlacedElements, insides_of, leading_group, places_by_subchunk, positions_of,
 };
 
-/// A shard whose index is known: the index, how many bytes the shard has with it, and what its
-/// elements are.
+/// A shard whose index is known: the pairs of it, how many bytes the shard has with it, and what
+/// its elements are.
 #[derive(Clone, Copy)]
 pub struct OpenedShard<'a> {
-    pub index: &'a ShardIndex,
+    pub pairs: &'a PresentPairs,
     pub total: u64,
     pub elements: &'a Elements,
 }
@@ -63,6 +62,7 @@ impl<I: ArrayToBytesCodecTraits, X: ArrayToBytesCodecTraits> ShardingCodec<I, X>
     ghost use Rattle.zarr_codecs_meaning.specs.Fits.{fits};
     ghost use Rattle.zarr_codecs_meaning.specs.Places.{grid_of, index_shape, parts_of, place_numbers};
     ghost use Rattle.zarr_codecs_traits.specs.Indexers.{are_inside, asked_of, numbers_asked};
+    ghost use Rattle.zarr_codecs_traits.specs.Arrays.{coded_part};
     ghost use Rattle.zarr_codecs_traits.specs.Outcomes.{DecodesPart};
     ghost use Rattle.zarr_codecs_traits.specs.Sources.{refused_after};
     ghost use Rattle.zarr_grids_boxes.specs.Boxes.{product};
@@ -71,7 +71,7 @@ impl<I: ArrayToBytesCodecTraits, X: ArrayToBytesCodecTraits> ShardingCodec<I, X>
     ghost use Rattle.zarr_sharding_codec.specs.Views.{index_of, inner_of, place_of_index, shard_chain, subchunk_of};
     ghost use Rattle.zarr_sharding_index.specs.Held.{FetchesIndex};
     ghost use Rattle.zarr_sharding_index.specs.Stored.{index_fits};
-    ghost use Rattle.zarr_sharding_index.specs.Views.{pairs_of};
+    ghost use Rattle.zarr_sharding_index.specs.Present.{all_pairs};
     ghost use Rattle.zarr_sharding_places.specs.Groups.{places_in};
     ghost use Rattle.zarr_sharding_places.specs.Locating.{asked_places};
     ghost use Rattle.zarr_sharding_state.specs.States.{slice_length};
@@ -84,7 +84,6 @@ impl<I: ArrayToBytesCodecTraits, X: ArrayToBytesCodecTraits> ShardingCodec<I, X>
         source: &mut D,
         size: u64,
         part: ArrayPart<'_>,
-        options: &CodecOptions,
     ) -> Result<ArrayBytes, CodecError>
         requires fit { fits (shard_chain I.meaning X.meaning self.now)
             (elements_of part.elements.now).type part.shape.now ≡ true }
@@ -93,16 +92,16 @@ impl<I: ArrayToBytesCodecTraits, X: ArrayToBytesCodecTraits> ShardingCodec<I, X>
         requires inside { are_inside part.shape.now (asked_of part.indexer) ≡ true }
         requires small { product part.shape.now < 2 ^ 63 }
         ensures part { IsTrue (D.is_honest source.old) → DecodesPart
-            (shard_chain I.meaning X.meaning self.now) (elements_of part.entry.elements.now)
-            part.entry.shape.now (D.contents source.old) (asked_of part.entry.indexer) result }
+            (coded_part (shard_chain I.meaning X.meaning self.now) part.entry)
+            (D.contents source.old) (asked_of part.entry.indexer) result }
         ensures refused { D.refused_calls source.new ≡
             refused_after (D.refused_calls source.old) result }
         ensures follows { D.follows source.old source.new }
     {
-        match self.open_index(alloc, source, size, part.shape, options) {
+        match self.open_index(alloc, source, size, part.shape) {
             Ok(Some(fetched)) => {
                 let shard = OpenedShard {
-                    index: &fetched.index,
+                    pairs: &fetched.pairs,
                     total: fetched.total,
                     elements: part.elements,
                 };
@@ -110,7 +109,7 @@ impl<I: ArrayToBytesCodecTraits, X: ArrayToBytesCodecTraits> ShardingCodec<I, X>
                     shape: part.shape,
                     indexer: part.indexer,
                 };
-                self.read_asked(alloc, source, shard, asked, options)
+                self.read_asked(alloc, source, shard, asked)
             }
             Ok(None) => {
                 let Some(count) = count_asked(part.shape, part.indexer) else {
@@ -131,7 +130,6 @@ impl<I: ArrayToBytesCodecTraits, X: ArrayToBytesCodecTraits> ShardingCodec<I, X>
         source: &mut D,
         size: u64,
         shape: &[u64],
-        options: &CodecOptions,
     ) -> Result<Option<FetchedIndex>, CodecError>
         requires rank { length shape.now ≡ length (subchunk_of self.now) }
         requires fit { index_fits (X.meaning (index_of self.now))
@@ -158,8 +156,8 @@ impl<I: ArrayToBytesCodecTraits, X: ArrayToBytesCodecTraits> ShardingCodec<I, X>
             shape: pairs_shape.as_slice(),
             size,
         };
-        match fetch_index(alloc, &self.index_codecs, source, layout, options) {
-            Ok(Some(found)) => if found.index.len() as u64 == count {
+        match fetch_index(alloc, &self.index_codecs, source, layout) {
+            Ok(Some(found)) => if found.pairs.len() as u64 == count {
                 Ok(Some(found))
             } else {
                 Err(CodecError::Memory)
@@ -178,25 +176,24 @@ impl<I: ArrayToBytesCodecTraits, X: ArrayToBytesCodecTraits> ShardingCodec<I, X>
         source: &mut D,
         shard: OpenedShard<'_>,
         asked: NumberedPlaces<'_>,
-        options: &CodecOptions,
     ) -> Result<ArrayBytes, CodecError>
         requires fit { fits (shard_chain I.meaning X.meaning self.now)
             (elements_of shard.elements.now).type asked.shape.now ≡ true }
-        requires many { length (pairs_of shard.index.now)
+        requires many { length (all_pairs shard.pairs.now)
             ≡ length (parts_of asked.shape.now (subchunk_of self.now)) }
         requires below { list_all (λ n. nat_lt n (product asked.shape.now))
             asked.numbers.now ≡ true }
         ensures part { IsTrue (D.is_honest source.old) → IsTotalOf (D.contents source.old)
-            (pairs_of shard.entry.index.now) shard.entry.total
+            (all_pairs shard.entry.pairs.now) shard.entry.total
             → ListsRead (elements_of shard.entry.elements.now) asked.entry.shape.now
             (shard_cells (I.meaning (inner_of self.now)) (elements_of shard.entry.elements.now)
             asked.entry.shape.now (subchunk_of self.now) (unwrap_or (D.contents source.old) [])
-            (pairs_of shard.entry.index.now) asked.entry.numbers.now) result }
+            (all_pairs shard.entry.pairs.now) asked.entry.numbers.now) result }
         ensures refused { D.refused_calls source.new ≡
             refused_after (D.refused_calls source.old) result }
         ensures given { IsTrue (D.is_honest source.old) → D.given_bytes source.new
             ≤ D.given_bytes source.old + bytes_met asked.entry.shape.now (subchunk_of self.now)
-            asked.entry.numbers.now (pairs_of shard.entry.index.now) }
+            asked.entry.numbers.now (all_pairs shard.entry.pairs.now) }
         ensures follows { D.follows source.old source.new }
     {
         let places = self.places_of(alloc, asked)?;
@@ -213,7 +210,7 @@ impl<I: ArrayToBytesCodecTraits, X: ArrayToBytesCodecTraits> ShardingCodec<I, X>
                 shape,
                 group,
             };
-            match self.read_group(alloc, source, shard, part, options) {
+            match self.read_group(alloc, source, shard, part) {
                 Ok(piece) => all = put_group(alloc, all, group, &piece, shard.elements)?,
                 Err(error) => return Err(error),
             }
@@ -250,31 +247,30 @@ impl<I: ArrayToBytesCodecTraits, X: ArrayToBytesCodecTraits> ShardingCodec<I, X>
         source: &mut D,
         shard: OpenedShard<'_>,
         part: GroupPlaces<'_>,
-        options: &CodecOptions,
     ) -> Result<ArrayBytes, CodecError>
         requires fit { fits (I.meaning (inner_of self.now)) (elements_of shard.elements.now).type
             part.shape.now ≡ true }
         requires some { 0 < length part.group.now }
-        requires pair { part.number < length (pairs_of shard.index.now) }
+        requires pair { part.number < length (all_pairs shard.pairs.now) }
         requires inside { list_all (λ n. nat_lt n (product part.shape.now))
             (map (λ place. place.inside) part.group.now) ≡ true }
         ensures part { IsTrue (D.is_honest source.old) → IsTotalOf (D.contents source.old)
-            (pairs_of shard.entry.index.now) shard.entry.total
+            (all_pairs shard.entry.pairs.now) shard.entry.total
             → ListsRead (elements_of shard.entry.elements.now) part.entry.shape.now
             (places_decoded (I.meaning (inner_of self.now)) (elements_of shard.entry.elements.now)
             (unwrap_or (D.contents source.old) []) part.entry.shape.now
-            (get_or (pairs_of shard.entry.index.now) part.entry.number absent_pair)
+            (get_or (all_pairs shard.entry.pairs.now) part.entry.number absent_pair)
             (map (λ place. place.inside) part.entry.group.now)) result }
         ensures refused { D.refused_calls source.new ≡
             refused_after (D.refused_calls source.old) result }
         ensures given { IsTrue (D.is_honest source.old) → D.given_bytes source.new
             ≤ D.given_bytes source.old + slice_length
-            (get_or (pairs_of shard.entry.index.now) part.entry.number absent_pair) }
+            (get_or (all_pairs shard.entry.pairs.now) part.entry.number absent_pair) }
         ensures follows { D.follows source.old source.new }
     {
         let elements = shard.elements;
         let group = part.group;
-        let pair = shard.index.get(part.number as usize);
+        let pair = shard.pairs.get(part.number as usize);
         if is_absent(pair) {
             return Ok(fill_elements(alloc, elements, group.len())?);
         }
@@ -282,7 +278,7 @@ impl<I: ArrayToBytesCodecTraits, X: ArrayToBytesCodecTraits> ShardingCodec<I, X>
             Ok(slice) => {
                 let insides = insides_of(alloc, group)?;
                 let indexer = Indexer::List(insides.as_slice());
-                self.read_slice(alloc, slice, indexer, part.shape, elements, options)
+                self.read_slice(alloc, slice, indexer, part.shape, elements)
             }
             Err(error) => Err(error),
         }
@@ -297,7 +293,6 @@ impl<I: ArrayToBytesCodecTraits, X: ArrayToBytesCodecTraits> ShardingCodec<I, X>
         indexer: Indexer<'a>,
         shape: &'a [u64],
         elements: &'a Elements,
-        options: &CodecOptions,
     ) -> Result<ArrayBytes, CodecError>
         requires fit { fits (I.meaning (inner_of self.now)) (elements_of elements.now).type
             shape.now ≡ true }
@@ -309,7 +304,7 @@ impl<I: ArrayToBytesCodecTraits, X: ArrayToBytesCodecTraits> ShardingCodec<I, X>
         ensures no_source { (count : ℕ) → refused_after count result ≡ count }
     {
         if asks_all(shape, indexer) {
-            return self.decode_slice(alloc, slice, WholeArray { elements, shape }, options);
+            return self.decode_slice(alloc, slice, WholeArray { elements, shape });
         }
         let mut source = MemorySource::new(Some(slice));
         let part = ArrayPart {
@@ -318,7 +313,7 @@ impl<I: ArrayToBytesCodecTraits, X: ArrayToBytesCodecTraits> ShardingCodec<I, X>
             indexer,
         };
         self.inner_codecs
-            .partial_decode(alloc, &mut source, part, options)
+            .partial_decode_in_order(alloc, &mut source, part)
     }
 
     /// The elements of the subchunk that a slice holds, all of them. `Damage` where one of them
@@ -328,7 +323,6 @@ impl<I: ArrayToBytesCodecTraits, X: ArrayToBytesCodecTraits> ShardingCodec<I, X>
         alloc: Global,
         slice: Vec<u8>,
         array: WholeArray<'_>,
-        options: &CodecOptions,
     ) -> Result<ArrayBytes, CodecError>
         requires fit { fits (I.meaning (inner_of self.now)) (elements_of array.elements.now).type
             array.shape.now ≡ true }
@@ -342,7 +336,7 @@ impl<I: ArrayToBytesCodecTraits, X: ArrayToBytesCodecTraits> ShardingCodec<I, X>
             return Ok(ArrayBytes::Fixed(slice));
         }
         self.inner_codecs
-            .decode(alloc, slice, array.elements, array.shape, options)
+            .decode_in_order(alloc, slice, array.elements, array.shape)
     }
 }
 

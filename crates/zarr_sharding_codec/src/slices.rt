@@ -12,7 +12,6 @@ ghost use Rattle.zarr_sharding_index.specs.Views.{location_of, pairs_of};
 
 use std::alloc::{AllocError, Global};
 use zarr_codecs_arrays::{ArrayBytes, CodecError, Elements};
-use zarr_codecs_options::CodecOptions;
 use zarr_codecs_traits::{ArrayToBytesCodecTraits, ByteRange};
 use zarr_sharding_index::pair::ABSENT;
 use zarr_sharding_index::{ShardIndex, ShardingIndexLocation};
@@ -24,7 +23,6 @@ pub(crate) fn store_piece<I: ArrayToBytesCodecTraits>(
     piece: ArrayBytes,
     elements: &Elements,
     shape: &[u64],
-    options: &CodecOptions,
 ) -> Result<Option<Vec<u8>>, CodecError>
     requires { fits (I.meaning inner_codecs.now) (elements_of elements.now).type shape.now ≡ true }
     ensures stored { (cells : List Cell)
@@ -36,7 +34,7 @@ pub(crate) fn store_piece<I: ArrayToBytesCodecTraits>(
     if piece.is_fill_value(elements) {
         return Ok(None);
     }
-    match inner_codecs.encode(alloc, piece, elements, shape, options) {
+    match inner_codecs.encode_in_order(alloc, piece, elements, shape) {
         Ok(slice) => Ok(Some(slice)),
         Err(error) => Err(error),
     }

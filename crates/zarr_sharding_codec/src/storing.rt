@@ -5,7 +5,6 @@ use crate::slices::{push_slice, store_piece};
 use crate::subchunks::{CutArray, first_place, move_to_subchunk, take_box};
 use std::alloc::Global;
 use zarr_codecs_arrays::{ArrayBytes, CodecError};
-use zarr_codecs_options::CodecOptions;
 use zarr_codecs_traits::{ArrayToBytesCodecTraits, WholeArray};
 use zarr_grids_boxes::ArraySubset;
 use zarr_grids_boxes::walk::count_places;
@@ -33,7 +32,6 @@ impl<I: ArrayToBytesCodecTraits, X: ArrayToBytesCodecTraits> ShardingCodec<I, X>
         bytes: &ArrayBytes,
         array: WholeArray<'_>,
         size: u64,
-        options: &CodecOptions,
     ) -> Result<(Vec<u8>, ShardIndex), CodecError>
         requires low { size < 2 ^ 63 }
         requires fit { fits (shard_chain I.meaning X.meaning self.now)
@@ -70,7 +68,7 @@ impl<I: ArrayToBytesCodecTraits, X: ArrayToBytesCodecTraits> ShardingCodec<I, X>
             let moved = move_to_subchunk(region, first, cut, n)?;
             let piece = take_box(alloc, room, bytes, array, &moved)?;
             let inner = &self.inner_codecs;
-            match store_piece(alloc, inner, piece, array.elements, moved.shape(), options) {
+            match store_piece(alloc, inner, piece, array.elements, moved.shape()) {
                 Ok(slice) => room = push_slice(alloc, base, slice, &mut data, &mut index)?,
                 Err(error) => return Err(error),
             }

@@ -16,7 +16,6 @@ use crate::slices::store_piece;
 use crate::subchunks::part_shape;
 use std::alloc::{AllocError, Global};
 use zarr_codecs_arrays::{ArrayBytes, CodecError, Elements};
-use zarr_codecs_options::CodecOptions;
 use zarr_codecs_regions::{gather_elements, update_array_bytes};
 use zarr_codecs_traits::{ArrayToBytesCodecTraits, BytesPartialDecoderTraits, Indexer};
 use zarr_sharding_index::IndexLayout;
@@ -104,7 +103,6 @@ impl<I: ArrayToBytesCodecTraits, X: ArrayToBytesCodecTraits> ShardingCodec<I, X>
         source: &mut D,
         shard: ShardInSource<'_>,
         given: AskedElements<'_>,
-        options: &CodecOptions,
     ) -> Result<Vec<SliceChange>, CodecError>
         requires fit { fits (shard_chain I.meaning X.meaning self.now)
             (elements_of shard.elements.now).type given.shape.now ≡ true }
@@ -142,7 +140,7 @@ impl<I: ArrayToBytesCodecTraits, X: ArrayToBytesCodecTraits> ShardingCodec<I, X>
                 let subchunk = NumberedSubchunk { number, shape };
                 let bytes = given.bytes;
                 let whole = SubchunkElements { subchunk, bytes };
-                match self.replace_subchunk(alloc, source, shard, whole, options) {
+                match self.replace_subchunk(alloc, source, shard, whole) {
                     Ok(change) => Ok(one_change(alloc, change)?),
                     Err(error) => Err(error),
                 }
@@ -158,7 +156,7 @@ impl<I: ArrayToBytesCodecTraits, X: ArrayToBytesCodecTraits> ShardingCodec<I, X>
                             region,
                             bytes,
                         };
-                        self.update_box(alloc, source, shard, boxed, options)
+                        self.update_box(alloc, source, shard, boxed)
                     }
                     Indexer::List(numbers) => {
                         let listed = NumberedElements {
@@ -166,7 +164,7 @@ impl<I: ArrayToBytesCodecTraits, X: ArrayToBytesCodecTraits> ShardingCodec<I, X>
                             numbers,
                             bytes,
                         };
-                        self.update_slices(alloc, source, shard, listed, options)
+                        self.update_slices(alloc, source, shard, listed)
                     }
                 }
             }
@@ -185,7 +183,6 @@ impl<I: ArrayToBytesCodecTraits, X: ArrayToBytesCodecTraits> ShardingCodec<I, X>
         source: &mut D,
         shard: ShardInSource<'_>,
         given: NumberedElements<'_>,
-        options: &CodecOptions,
     ) -> Result<Vec<SliceChange>, CodecError>
         requires fit { fits (shard_chain I.meaning X.meaning self.now)
             (elements_of shard.elements.now).type given.shape.now ≡ true }
@@ -227,7 +224,7 @@ impl<I: ArrayToBytesCodecTraits, X: ArrayToBytesCodecTraits> ShardingCodec<I, X>
                 group,
                 shape: edges,
             };
-            match self.update_group(alloc, source, shard, part, options) {
+            match self.update_group(alloc, source, shard, part) {
                 Ok(change) => changes.push(change)?,
                 Err(error) => return Err(error),
             }
@@ -243,7 +240,6 @@ impl<I: ArrayToBytesCodecTraits, X: ArrayToBytesCodecTraits> ShardingCodec<I, X>
         source: &mut D,
         shard: ShardInSource<'_>,
         given: GroupElements<'_>,
-        options: &CodecOptions,
     ) -> Result<SliceChange, CodecError>
         requires fit { fits (I.meaning (inner_of self.now)) (elements_of shard.elements.now).type
             given.shape.now ≡ true }
@@ -277,10 +273,10 @@ impl<I: ArrayToBytesCodecTraits, X: ArrayToBytesCodecTraits> ShardingCodec<I, X>
         let elements = shard.elements;
         let shape = given.shape;
         let subchunk = NumberedSubchunk { number, shape };
-        match self.read_subchunk(alloc, source, shard, subchunk, options) {
+        match self.read_subchunk(alloc, source, shard, subchunk) {
             Ok(piece) => {
                 let updated = put_given(alloc, piece, shape, given.group, given.bytes, elements)?;
-                match store_piece(alloc, &self.inner_codecs, updated, elements, shape, options) {
+                match store_piece(alloc, &self.inner_codecs, updated, elements, shape) {
                     Ok(slice) => Ok(SliceChange { number, slice }),
                     Err(error) => Err(error),
                 }
@@ -297,7 +293,6 @@ impl<I: ArrayToBytesCodecTraits, X: ArrayToBytesCodecTraits> ShardingCodec<I, X>
         source: &mut D,
         shard: ShardInSource<'_>,
         given: SubchunkElements<'_>,
-        options: &CodecOptions,
     ) -> Result<SliceChange, CodecError>
         requires fit { fits (I.meaning (inner_of self.now)) (elements_of shard.elements.now).type
             given.subchunk.shape.now ≡ true }
@@ -326,7 +321,7 @@ impl<I: ArrayToBytesCodecTraits, X: ArrayToBytesCodecTraits> ShardingCodec<I, X>
         let subchunk = given.subchunk;
         let number = subchunk.number;
         let elements = shard.elements;
-        match self.read_subchunk(alloc, source, shard, subchunk, options) {
+        match self.read_subchunk(alloc, source, shard, subchunk) {
             Ok(_old) => {
                 match store_piece(
                     alloc,
@@ -334,7 +329,6 @@ impl<I: ArrayToBytesCodecTraits, X: ArrayToBytesCodecTraits> ShardingCodec<I, X>
                     given.bytes,
                     elements,
                     subchunk.shape,
-                    options,
                 ) {
                     Ok(slice) => Ok(SliceChange { number, slice }),
                     Err(error) => Err(error),
@@ -353,7 +347,6 @@ impl<I: ArrayToBytesCodecTraits, X: ArrayToBytesCodecTraits> ShardingCodec<I, X>
         source: &mut D,
         shard: ShardInSource<'_>,
         subchunk: NumberedSubchunk<'_>,
-        options: &CodecOptions,
     ) -> Result<ArrayBytes, CodecError>
         requires fit { fits (I.meaning (inner_of self.now)) (elements_of shard.elements.now).type
             subchunk.shape.now ≡ true }
@@ -378,7 +371,7 @@ impl<I: ArrayToBytesCodecTraits, X: ArrayToBytesCodecTraits> ShardingCodec<I, X>
         match known.retrieve_subchunk_encoded(alloc, source, shard.layout, subchunk.number) {
             Ok(Some(slice)) => {
                 self.inner_codecs
-                    .decode(alloc, slice, shard.elements, shape, options)
+                    .decode_in_order(alloc, slice, shard.elements, shape)
             }
             Ok(None) => fill_piece(alloc, shard.elements, shape),
             Err(error) => Err(error),

@@ -2,7 +2,6 @@
 use crate::codec::ShardingCodec;
 use std::alloc::{AllocError, Global};
 use zarr_codecs_arrays::{ArrayBytes, CodecError, Elements};
-use zarr_codecs_options::CodecOptions;
 use zarr_codecs_regions::WholeValues;
 use zarr_codecs_traits::ArrayToBytesCodecTraits;
 use zarr_codecs_types::DataType;
@@ -30,9 +29,8 @@ impl<I: ArrayToBytesCodecTraits, X: IndexCodec> WholeValues for ShardingCodec<I,
         bytes: ArrayBytes,
         elements: &Elements,
         shape: &[u64],
-        options: &CodecOptions,
     ) -> Result<Vec<u8>, CodecError> {
-        self.encode(alloc, bytes, elements, shape, options)
+        self.encode_in_order(alloc, bytes, elements, shape)
     }
 
     fn decode_value(
@@ -41,9 +39,8 @@ impl<I: ArrayToBytesCodecTraits, X: IndexCodec> WholeValues for ShardingCodec<I,
         value: Vec<u8>,
         elements: &Elements,
         shape: &[u64],
-        options: &CodecOptions,
     ) -> Result<ArrayBytes, CodecError> {
-        self.decode(alloc, value, elements, shape, options)
+        self.decode_in_order(alloc, value, elements, shape)
     }
 
     fn keeps_fill(&self) -> bool {

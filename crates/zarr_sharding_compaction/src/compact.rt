@@ -11,7 +11,6 @@ use crate::layout::{ShardLayout, join_shard, split_shard};
 use crate::slices::{SlicedData, copy_slices, present_length};
 use std::alloc::Global;
 use zarr_codecs_arrays::CodecError;
-use zarr_codecs_options::CodecOptions;
 use zarr_codecs_traits::ArrayToBytesCodecTraits;
 use zarr_sharding_index::shapes::index_shape;
 use zarr_sharding_index::stored::{read_index, write_index};
@@ -27,7 +26,6 @@ pub fn compact_shard<X: ArrayToBytesCodecTraits>(
     codecs: &X,
     layout: ShardLayout<'_>,
     value: &[u8],
-    options: &CodecOptions,
 ) -> Result<Option<Vec<u8>>, CodecError>
     requires rank { length layout.shape.now ≡ length layout.subchunk_shape.now }
     requires fit { index_fits (X.meaning codecs.now)
@@ -43,7 +41,7 @@ pub fn compact_shard<X: ArrayToBytesCodecTraits>(
     };
     let pairs_shape = index_shape(alloc, layout.shape, layout.subchunk_shape)?;
     let pairs_shape = pairs_shape.as_slice();
-    match read_index(alloc, codecs, stored.to_vec(alloc)?, pairs_shape, options) {
+    match read_index(alloc, codecs, stored.to_vec(alloc)?, pairs_shape) {
         Ok(index) => {
             let base = layout.index_location.base(layout.index_size);
             let sliced = SlicedData {
@@ -61,7 +59,7 @@ pub fn compact_shard<X: ArrayToBytesCodecTraits>(
             if total > 0x7fff_ffff_ffff_ffff {
                 return Err(CodecError::Size);
             }
-            write_slices(alloc, codecs, sliced, layout, options)
+            write_slices(alloc, codecs, sliced, layout)
         }
         Err(error) => Err(error),
     }
@@ -74,7 +72,6 @@ fn write_slices<X: ArrayToBytesCodecTraits>(
     codecs: &X,
     sliced: SlicedData<'_>,
     layout: ShardLayout<'_>,
-    options: &CodecOptions,
 ) -> Result<Option<Vec<u8>>, CodecError>
     requires rank { length layout.shape.now ≡ length layout.subchunk_shape.now }
     requires fit { index_fits (X.meaning codecs.now)
@@ -91,7 +88,7 @@ fn write_slices<X: ArrayToBytesCodecTraits>(
         return Err(CodecError::Damage);
     };
     let pairs_shape = index_shape(alloc, layout.shape, layout.subchunk_shape)?;
-    match write_index(alloc, codecs, index, pairs_shape.as_slice(), options) {
+    match write_index(alloc, codecs, index, pairs_shape.as_slice()) {
         Ok(stored) => Ok(Some(join_shard(layout.index_location, stored, data)?)),
         Err(error) => Err(error),
     }

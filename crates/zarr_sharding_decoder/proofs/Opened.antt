@@ -5,7 +5,7 @@ use Rattle.zarr_codecs_meaning.proofs.Lists.{some_same}
 use Rattle.zarr_sharding_codec.specs.Reading.{HasPairs}
 use Rattle.zarr_sharding_decoder.specs.Pairs.{counts, pairs_fetched, totals}
 use Rattle.zarr_sharding_index.specs.Held.{IsFetched, held_pairs}
-use Rattle.zarr_sharding_index.specs.Views.{pairs_of}
+use Rattle.zarr_sharding_index.specs.Present.{all_pairs}
 use Rattle.zarr_sharding_index.specs.declared.held.FetchedIndex.{FetchedIndex}
 
 -- ---- what was fetched is kept
@@ -31,7 +31,7 @@ kept_counts count (Some found) h = ap Some h
 pub record IsHeld (index : Chain) (location : Location) (shape : List ℕ) (contents : Option (List ℕ)) (found : FetchedIndex) : Type 0 where
   pub value : List ℕ
   pub is : contents ≡ Some value
-  pub pairs : held_pairs index location shape value ≡ Some (pairs_of found.index)
+  pub pairs : held_pairs index location shape value ≡ Some (all_pairs found.pairs)
   pub total : found.total ≡ length value
 
 pub held_value : (index : Chain) (location : Location) (shape : List ℕ) (contents : Option (List ℕ)) (held : Option FetchedIndex) (found : FetchedIndex) → held ≡ Some found → option_map length contents ≡ totals held
@@ -52,5 +52,5 @@ held_nothing (Some value) held is told = absurd (some_total (told ∙ ap totals 
   some_total : Some (length value) ≡ None → ⊥
   some_total h = cc
 
-pub held_count : (count : ℕ) (held : Option FetchedIndex) (found : FetchedIndex) → held ≡ Some found → counts held ≡ option_map (λ (found : FetchedIndex). count) held → length (pairs_of found.index) ≡ count
+pub held_count : (count : ℕ) (held : Option FetchedIndex) (found : FetchedIndex) → held ≡ Some found → counts held ≡ option_map (λ (found : FetchedIndex). count) held → length (all_pairs found.pairs) ≡ count
 held_count count held found is many = some_same (sym (ap counts is) ∙ (many ∙ ap (option_map (λ (found : FetchedIndex). count)) is))

@@ -21,4 +21,4 @@ pub record IsOpened (s : ShardOf) (honest : Bool) (contents : Option (List ℕ))
   pub many : counts opened.held ≡ option_map (λ (found : FetchedIndex). product (grid_of s.shape s.subchunk)) opened.held
   pub cut : opened.grid.items ≡ grid_of s.shape s.subchunk
   pub few : product (grid_of s.shape s.subchunk) < 2 ^ 63
-  pub sized : opened.size ≡ 16 * count_fetched opened.held
+  pub sized : opened.size ≡ 24 * count_fetched opened.held

@@ -10,22 +10,24 @@ use Rattle.zarr_codecs_arrays.specs.declared.error.CodecError.{CodecError}
 use Rattle.zarr_codecs_arrays.specs.declared.error.CodecError.TheVariants as error
 use Rattle.zarr_codecs_traits.specs.declared.byte_range.ByteRange.{ByteRange}
 use Rattle.zarr_sharding_index.specs.Held.{held_pairs}
-use Rattle.zarr_sharding_index.specs.Views.{pair_of, pairs_of}
+use Rattle.zarr_sharding_index.specs.Listed.{count_present}
+use Rattle.zarr_sharding_index.specs.Present.{all_pairs}
+use Rattle.zarr_sharding_index.specs.Views.{pair_of}
 use Rattle.zarr_sharding_index.specs.declared.held.FetchedIndex.{FetchedIndex}
 use Rattle.zarr_sharding_decoder.specs.Shards.{ShardOf, chain_of}
 
--- how many pairs an index has, or 0 where there is none
+-- how many pairs of an index are those of present subchunks, or 0 where there is no index
 abbrev pub count_fetched : Option FetchedIndex → ℕ
 count_fetched None = 0
-count_fetched (Some found) = length (pairs_of found.index)
+count_fetched (Some found) = count_present (all_pairs found.pairs)
 
 -- the pairs of an index, if there is one
 abbrev pub pairs_fetched : Option FetchedIndex → Option (List Pair)
-pairs_fetched held = option_map (λ (found : FetchedIndex). pairs_of found.index) held
+pairs_fetched held = option_map (λ (found : FetchedIndex). all_pairs found.pairs) held
 
 -- how many pairs an index has, if there is one
 abbrev pub counts : Option FetchedIndex → Option ℕ
-counts held = option_map (λ (found : FetchedIndex). length (pairs_of found.index)) held
+counts held = option_map (λ (found : FetchedIndex). length (all_pairs found.pairs)) held
 
 -- how many bytes the shard of an index has, if there is one
 abbrev pub totals : Option FetchedIndex → Option ℕ

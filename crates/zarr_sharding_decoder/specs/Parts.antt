@@ -5,17 +5,18 @@ use Rattle.zarr_codecs_meaning.specs.Payloads.{Payload}
 use Rattle.zarr_codecs_arrays.specs.declared.array_bytes.ArrayBytes.{ArrayBytes}
 use Rattle.zarr_codecs_arrays.specs.declared.error.CodecError.{CodecError}
 use Rattle.zarr_codecs_traits.specs.Indexers.{Asked, numbers_asked}
+use Rattle.zarr_codecs_traits.specs.Arrays.{coded}
 use Rattle.zarr_codecs_traits.specs.Outcomes.{DecodesPart, IsPart}
 use Rattle.zarr_sharding_codec.specs.BytesMet.{bytes_met}
 use Rattle.zarr_sharding_decoder.specs.Shards.{ShardOf, chain_of}
 
 -- the elements at the places that are asked for, of what is stored, or why there are none
 abbrev pub ReadsPart : ShardOf → Option (List ℕ) → Asked → Result ArrayBytes CodecError → Type 0
-ReadsPart s contents asked result = DecodesPart (chain_of s) s.elements s.shape contents asked result
+ReadsPart s contents asked result = DecodesPart (coded (chain_of s) s.elements s.shape) contents asked result
 
 -- the elements at the places that are asked for, of what is stored
 abbrev pub GivesPart : ShardOf → Option (List ℕ) → Asked → Payload → Type 0
-GivesPart s contents asked payload = IsPart (chain_of s) s.elements s.shape contents asked payload
+GivesPart s contents asked payload = IsPart (coded (chain_of s) s.elements s.shape) contents asked payload
 
 -- how many bytes the slices have of the subchunks that the places lie in, each slice counted once
 abbrev pub slices_met : ShardOf → Option (List Pair) → Asked → ℕ

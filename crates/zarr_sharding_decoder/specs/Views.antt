@@ -34,6 +34,6 @@ reference_of decoder = decoder.source.ghost_name
 abbrev pub pairs_held : {I X D : Type 0} {i : codec.Ghosts I} {x : codec.Ghosts X} {d : source.Ghosts D} → ShardingPartialDecoder I X D i x d → Option (List Pair)
 pairs_held decoder = pairs_fetched decoder.held
 
--- how many bytes the pairs take that are kept
+-- how many bytes the pairs of present subchunks take, which are kept
 abbrev pub pairs_length : {I X D : Type 0} {i : codec.Ghosts I} {x : codec.Ghosts X} {d : source.Ghosts D} → ShardingPartialDecoder I X D i x d → ℕ
-pairs_length decoder = 16 * count_fetched decoder.held
+pairs_length decoder = 24 * count_fetched decoder.held

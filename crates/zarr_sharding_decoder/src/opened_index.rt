@@ -3,7 +3,7 @@ use zarr_sharding_index::FetchedIndex;
 
 /// What `open_shard` gives and a `ShardingPartialDecoder` keeps: the index of the shard that a
 /// source holds, or that it holds none; how many subchunks the array has in each dimension; and
-/// how many bytes the pairs of the index take.
+/// how many bytes the pairs of present subchunks take.
 #[derive(Debug, Drop)]
 pub struct OpenedIndex {
     pub(crate) grid: Vec<u64>,

@@ -10,7 +10,6 @@ use crate::opened_index::OpenedIndex;
 use crate::partial_decoder::ShardingPartialDecoder;
 use std::alloc::Global;
 use zarr_codecs_arrays::CodecError;
-use zarr_codecs_options::CodecOptions;
 use zarr_codecs_traits::{ArrayToBytesCodecTraits, BytesPartialDecoderTraits, WholeArray};
 use zarr_grids_boxes::walk::count_places;
 use zarr_sharding_codec::ShardingCodec;
@@ -31,7 +30,6 @@ pub fn open_shard<
     codec: &ShardingCodec<I, X>,
     source: &mut D,
     array: WholeArray<'_>,
-    options: &CodecOptions,
 ) -> Result<OpenedIndex, CodecError>
     ensures opened { IfOk result (IsOpened (shard_in I.meaning X.meaning codec.now
         (elements_of array.entry.elements.now) array.entry.shape.now) (D.is_honest source.new)
@@ -54,7 +52,7 @@ pub fn open_shard<
     if count_places(grid.as_slice()).is_none() {
         return Err(CodecError::Memory);
     }
-    let held = match codec.open_index(alloc, source, length, shape, options) {
+    let held = match codec.open_index(alloc, source, length, shape) {
         Ok(held) => held,
         Err(error) => return Err(error),
     };
@@ -84,7 +82,6 @@ impl<
         codec: &'a ShardingCodec<I, X>,
         source: &'a mut D,
         array: WholeArray<'a>,
-        options: &CodecOptions,
     ) -> Result<ShardingPartialDecoder<'a, I, X, D>, CodecError>
         ensures shard { IfOk result (λ decoder. shard_of I.meaning X.meaning decoder
             ≡ shard_in I.meaning X.meaning codec.now (elements_of array.entry.elements.now)
@@ -101,7 +98,7 @@ impl<
             (shard_in I.meaning X.meaning codec.now (elements_of array.entry.elements.now)
             array.entry.shape.now) (D.contents source.old)) }
     {
-        match open_shard(alloc, codec, source, array, options) {
+        match open_shard(alloc, codec, source, array) {
             Ok(opened) => Ok(ShardingPartialDecoder::of_index(codec, source, array, opened)),
             Err(error) => Err(error),
         }
@@ -145,7 +142,7 @@ impl<
         self.held.is_some()
     }
 
-    /// How many bytes are kept in memory, the source aside: 16 for each pair of the index, and none
+    /// How many bytes are kept in memory, the source aside: 24 for each present subchunk, and none
     /// where the source holds no value.
     pub fn size_held(&self) -> usize
         ensures { result ≡ pairs_length self.now }
@@ -154,12 +151,13 @@ impl<
     }
 }
 
-/// How many bytes the pairs of an index take, if there is one. `None` where these are too many.
+/// How many bytes the pairs of present subchunks take, if there is an index. `None` where these are
+/// too many.
 fn size_of_index(held: &Option<FetchedIndex>) -> Option<usize>
-    ensures { IfSome result (λ size. size ≡ 16 * count_fetched held.now) }
+    ensures { IfSome result (λ size. size ≡ 24 * count_fetched held.now) }
 {
     match held {
-        Some(found) => found.index.len().checked_mul(16),
+        Some(found) => found.pairs.count_present().checked_mul(24),
         None => Some(0),
     }
 }

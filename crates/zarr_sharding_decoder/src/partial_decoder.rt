@@ -14,9 +14,10 @@ use zarr_codecs_traits::{ArrayToBytesCodecTraits, BytesPartialDecoderTraits};
 use zarr_sharding_codec::ShardingCodec;
 use zarr_sharding_index::FetchedIndex;
 
-/// The shard of an array that a lent source holds, or none. Its index is fetched once and kept; of
-/// all else the slices alone are fetched that a call needs. A pair that no call meets is no
-/// concern, wherever it points (Zarr sharding codec, "Binary shard format").
+/// The shard of an array that a lent source holds, or none. Its index is fetched once, and the
+/// pairs of present subchunks are kept; of all else the slices alone are fetched that a call needs.
+/// A pair that no call meets is no concern, wherever it points (Zarr sharding codec, "Binary shard
+/// format").
 #[derive(Drop)]
 pub struct ShardingPartialDecoder<
     'a,
@@ -43,5 +44,5 @@ pub struct ShardingPartialDecoder<
         ≡ option_map (λ _. product (grid_of shape.now (subchunk_of codec.now))) held },
     ghost cut: { grid.items ≡ grid_of shape.now (subchunk_of codec.now) },
     ghost few: { product (grid_of shape.now (subchunk_of codec.now)) < 2 ^ 63 },
-    ghost sized: { size ≡ 16 * count_fetched held },
+    ghost sized: { size ≡ 24 * count_fetched held },
 }

@@ -1,6 +1,8 @@
 //! Elements read from a shard.
 use crate::partial_decoder::ShardingPartialDecoder;
 use std::alloc::Global;
+use std::marker::Sync;
+use std::thread::Threads;
 use zarr_codecs_arrays::{ArrayBytes, CodecError};
 use zarr_codecs_options::CodecOptions;
 use zarr_codecs_regions::{count_asked, test_asked};
@@ -13,13 +15,13 @@ use zarr_sharding_codec::{IndexedPlaces, OpenedShard};
 
 impl<
     'a,
-    I: ArrayToBytesCodecTraits,
-    X: ArrayToBytesCodecTraits,
+    I: ArrayToBytesCodecTraits + Sync,
+    X: ArrayToBytesCodecTraits + Sync,
     D: BytesPartialDecoderTraits,
 > ShardingPartialDecoder<'a, I, X, D> {
     ghost use Rattle.std.specs.Prelude.{◌≡◌, ◌≤◌, ◌+◌, IfErr, IsTrue, OnErr, OnOk};
     ghost use Rattle.zarr_codecs_traits.specs.Indexers.{asked_of};
-    ghost use Rattle.zarr_codecs_traits.specs.Sources.{IsRefusedAfter, refused_after};
+    ghost use Rattle.zarr_codecs_traits.specs.Sources.{CountsRead, IsRefusedAfter};
     ghost use Rattle.zarr_sharding_decoder.specs.Parts.{GivesPart, IsPartInto, NotPartInto, ReadsPart, slices_met};
     ghost use Rattle.zarr_sharding_decoder.specs.Views.{pairs_held, reference_of, shard_of, source_of};
 
@@ -29,8 +31,10 @@ impl<
     /// array's; `Damage` where the pair of a subchunk that is met ends past the end of the shard,
     /// or a place that is asked for cannot be decoded; `Size` where the array has 2^63 elements or
     /// bytes or more; `Source` where the source refuses.
-    pub fn partial_decode(
+    #[tactic(auto, using(zarr_codecs_traits::proofs::CountedReads::read_counted, zarr_codecs_traits::proofs::CountedReads::refusal_counted))]
+    pub fn partial_decode<R: Threads + Sync>(
         &mut self,
+        rt: &R,
         alloc: Global,
         indexer: Indexer<'_>,
         options: &CodecOptions,
@@ -38,8 +42,8 @@ impl<
         ensures part { IsTrue (D.is_honest (source_of self.old)) → ReadsPart
             (shard_of I.meaning X.meaning self.old) (D.contents (source_of self.old))
             (asked_of indexer.entry) result }
-        ensures refused { D.refused_calls (source_of self.new) ≡
-            refused_after (D.refused_calls (source_of self.old)) result }
+        ensures refused { CountsRead (D.refused_calls (source_of self.old)) result
+            (D.refused_calls (source_of self.new)) }
         ensures given { IsTrue (D.is_honest (source_of self.old)) →
             D.given_bytes (source_of self.new) ≤ D.given_bytes (source_of self.old) + slices_met
             (shard_of I.meaning X.meaning self.old) (pairs_held self.old)
@@ -63,7 +67,7 @@ impl<
             return Ok(fill_elements(alloc, self.elements, count as usize)?);
         };
         let shard = OpenedShard {
-            index: &fetched.index,
+            pairs: &fetched.pairs,
             total: fetched.total,
             elements: self.elements,
         };
@@ -71,14 +75,14 @@ impl<
             shape: self.shape,
             indexer,
         };
-        self.codec
-            .read_asked(alloc, self.source, shard, asked, options)
+        self.codec.read_asked(alloc, self.source, shard, asked)
     }
 
     /// Reads as `partial_decode` does, and puts the elements over those of a target. A refusal
     /// leaves the target as it was. Errors as those of `partial_decode`, and of the target's `put`.
-    pub fn partial_decode_into<T: ArrayBytesDecodeIntoTarget>(
+    pub fn partial_decode_into<R: Threads + Sync, T: ArrayBytesDecodeIntoTarget>(
         &mut self,
+        rt: &R,
         alloc: Global,
         indexer: Indexer<'_>,
         target: &mut T,
@@ -105,7 +109,7 @@ impl<
             ≡ shard_of I.meaning X.meaning self.old }
         ensures pairs { pairs_held self.new ≡ pairs_held self.old }
     {
-        match self.partial_decode(alloc, indexer, options) {
+        match self.partial_decode(rt, alloc, indexer, options) {
             Ok(elements) => target.put(alloc, &elements),
             Err(error) => Err(error),
         }

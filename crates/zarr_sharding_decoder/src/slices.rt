@@ -36,7 +36,7 @@ impl<
         let Some(held) = &self.held else {
             return Ok(None);
         };
-        let pair = held.index.get(number as usize);
+        let pair = held.pairs.get(number as usize);
         if is_absent(pair) {
             return Ok(None);
         }

@@ -10,7 +10,7 @@ use Rattle.zarr_codecs_arrays.specs.declared.error.CodecError.{CodecError}
 use Rattle.zarr_codecs_arrays.specs.declared.error.CodecError.TheVariants as error
 use Rattle.zarr_sharding_index.specs.Held.{FetchesIndex, FetchesSlice, IsFetched, IsIndexHeld}
 use Rattle.zarr_sharding_index.specs.Stored.{IsIndexRead}
-use Rattle.zarr_sharding_index.specs.Views.{pairs_of}
+use Rattle.zarr_sharding_index.specs.Present.{all_pairs}
 use Rattle.zarr_sharding_index.specs.declared.held.FetchedIndex.{FetchedIndex}
 
 -- the bytes of a pair that ends within the value
@@ -33,12 +33,12 @@ index_held index location shape value bytes size pairs same fits are read =
 
 pub index_fetched : (index : Chain) (location : Location) (shape bytes : List ℕ) (size : ℕ) (pair : Pair) (contents : Option (List ℕ)) (found : FetchedIndex) → Some found.total ≡ option_map length contents → size ≡ index_size index shape → size ≤ found.total
     → pair.0 + pair.1 ≤ found.total → ((value : List ℕ) → length value ≡ found.total → take pair.1 (drop pair.0 value) ≡ index_bytes location size value)
-    → ((value : List ℕ) → contents ≡ Some value → length value ≡ found.total → slice_at value pair ≡ Some bytes) → IsIndexRead index shape bytes (pairs_of found.index) → IsFetched index location shape contents (Some found)
+    → ((value : List ℕ) → contents ≡ Some value → length value ≡ found.total → slice_at value pair ≡ Some bytes) → IsIndexRead index shape bytes (all_pairs found.pairs) → IsFetched index location shape contents (Some found)
 index_fetched index location shape bytes size pair None found long same fits within range slice read = cc
 index_fetched index location shape bytes size pair (Some value) found long same fits within range slice read =
     let many : found.total ≡ length value = some_same long in
     let are = slice_within value bytes pair (omega (arith, many, within)) (slice value refl (sym many)) in
-    (index_held index location shape value bytes size (pairs_of found.index) same (omega (arith, many, fits)) (sym (range value (sym many)) ∙ are) read, many)
+    (index_held index location shape value bytes size (all_pairs found.pairs) same (omega (arith, many, fits)) (sym (range value (sym many)) ∙ are) read, many)
 
 -- a pair that ends within the value has a slice
 some_slice : (value : List ℕ) (pair : Pair) → pair.0 + pair.1 ≤ length value → slice_at value pair ≡ None → ⊥

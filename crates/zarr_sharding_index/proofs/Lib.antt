@@ -4,3 +4,5 @@ pub mod StoredAsIs
 pub mod StoredIndex
 pub mod HeldIndex
 pub mod Sizes
+pub mod Listed
+pub mod Searched

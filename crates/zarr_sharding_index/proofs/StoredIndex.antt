@@ -26,6 +26,7 @@ use Rattle.zarr_codecs_meaning.proofs.Values.{length-digits}
 use Rattle.zarr_codecs_meaning.proofs.Words.{number_is_value}
 use Rattle.zarr_codecs_arrays.specs.declared.error.CodecError.{CodecError}
 use Rattle.zarr_codecs_arrays.specs.declared.error.CodecError.TheVariants as error
+use Rattle.zarr_codecs_traits.specs.Arrays.{coded}
 use Rattle.zarr_codecs_traits.specs.Outcomes.{Encodes, IsDecoded}
 use Rattle.zarr_sharding_index.specs.Stored.{IsIndexRead, WritesIndex, index_fits}
 
@@ -64,7 +65,7 @@ fixed_long chains.BytesRepresentation.unbounded_size size long h is = cc
 -- ---- written
 
 pub index_written : (index : Chain) (exact : Bool) (shape : List ℕ) (pairs : List Pair) (payload : Payload) (result : Result (Vec ℕ Global) CodecError) → IsLawfulChain index → index_fits index shape ≡ true → product shape ≡ 2 * length pairs
-    → 16 * length pairs < 2 ^ 63 → cells_in uint64 payload ≡ Some (pair_cells pairs) → Encodes index exact (zero_filled uint64) shape payload result → WritesIndex index exact shape pairs result
+    → 16 * length pairs < 2 ^ 63 → cells_in uint64 payload ≡ Some (pair_cells pairs) → Encodes (coded index (zero_filled uint64) shape) exact payload result → WritesIndex index exact shape pairs result
 index_written index exact shape pairs payload (Ok value) lawful fit many room lists given =
     let made = given.1 in
     let same : given.0 ≡ pair_cells pairs = some_same (sym made.valid.is.lists ∙ lists) in
@@ -107,10 +108,10 @@ in_pairs [] even = refl
 in_pairs (first ∷ []) even = absurd (omega (arith, even))
 in_pairs (first ∷ second ∷ cells) even = let rest = in_pairs cells (omega (arith, even)) in omega (arith, rest)
 
-pub index_read : (index : Chain) (elements : Elements) (shape bytes : List ℕ) (payload : Payload) (pairs : List Pair) → product shape % 2 ≡ 0 → elements ≡ zero_filled uint64 → IsDecoded index elements shape bytes payload
+pub index_read : (index : Chain) (elements : Elements) (shape bytes : List ℕ) (payload : Payload) (pairs : List Pair) → product shape % 2 ≡ 0 → elements ≡ zero_filled uint64 → IsDecoded (coded index elements shape) bytes payload
     → ((cells : List Cell) → cells_in uint64 payload ≡ Some cells → pairs ≡ pairs_of_cells cells) → IsIndexRead index shape bytes pairs
 index_read index elements shape bytes payload pairs even same given are =
-    let found = subst (λ e. IsDecoded index e shape bytes payload) same given in
+    let found = subst (λ e. IsDecoded (coded index e shape) bytes payload) same given in
     let is = are found.cells found.lists in
     let count : length found.cells ≡ product shape = decoded_count index (zero_filled uint64) shape bytes found.cells found.is in
     record {

@@ -10,6 +10,7 @@ use Rattle.zarr_codecs_arrays.specs.declared.error.CodecError.{CodecError}
 use Rattle.zarr_codecs_arrays.specs.declared.error.CodecError.TheVariants as error
 use Rattle.zarr_sharding_index.specs.declared.held.FetchedIndex.{FetchedIndex}
 use Rattle.zarr_sharding_index.specs.declared.index.ShardIndex.{ShardIndex}
+use Rattle.zarr_sharding_index.specs.Present.{all_pairs}
 use Rattle.zarr_sharding_index.specs.Views.{pairs_of}
 
 -- the pairs of the index of a shard, which a chain decodes from as many bytes as an index of this shape has; None where the shard has fewer bytes, or they are not decoded
@@ -33,7 +34,7 @@ abbrev pub IsFetched : Chain → Location → List ℕ → Option (List ℕ) →
 IsFetched index location shape None None = Unit {0}
 IsFetched index location shape None (Some found) = ⊥
 IsFetched index location shape (Some value) None = ⊥
-IsFetched index location shape (Some value) (Some found) = IsIndexHeld index location shape value (pairs_of found.index) × (found.total ≡ length value)
+IsFetched index location shape (Some value) (Some found) = IsIndexHeld index location shape value (all_pairs found.pairs) × (found.total ≡ length value)
 
 -- what is fetched of the index of the shard that a source holds, or why nothing is
 abbrev pub FetchesIndex : Chain → Location → List ℕ → Option (List ℕ) → Result (Option FetchedIndex) CodecError → Type 0

@@ -1,3 +1,5 @@
 pub mod Views
 pub mod Stored
 pub mod Held
+pub mod Listed
+pub mod Present

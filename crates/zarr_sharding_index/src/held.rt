@@ -10,10 +10,10 @@ ghost use Rattle.zarr_sharding_index.specs.Views.{location_of, pair_of};
 use crate::index::ShardIndex;
 use crate::location::ShardingIndexLocation;
 use crate::pair::slice_at;
+use crate::present::PresentPairs;
 use crate::stored::read_index;
 use std::alloc::Global;
 use zarr_codecs_arrays::CodecError;
-use zarr_codecs_options::CodecOptions;
 use zarr_codecs_traits::{ArrayToBytesCodecTraits, ByteRange, BytesPartialDecoderTraits};
 
 /// Where the index of a shard stands, its shape, and how many bytes it has.
@@ -24,10 +24,11 @@ pub struct IndexLayout<'a> {
     pub size: u64,
 }
 
-/// The index of a shard, and how many bytes the shard has.
+/// The index of a shard, of which the pairs of present subchunks are kept, and how many bytes the
+/// shard has.
 #[derive(Debug, Drop)]
 pub struct FetchedIndex {
-    pub index: ShardIndex,
+    pub pairs: PresentPairs,
     pub total: u64,
 }
 
@@ -38,7 +39,6 @@ pub fn decode_index<X: ArrayToBytesCodecTraits>(
     codec: &X,
     value: &[u8],
     layout: IndexLayout<'_>,
-    options: &CodecOptions,
 ) -> Result<ShardIndex, CodecError>
     requires fit { index_fits (X.meaning codec.now) layout.shape.now ≡ true }
     requires even { product layout.shape.now % 2 ≡ 0 }
@@ -52,7 +52,7 @@ pub fn decode_index<X: ArrayToBytesCodecTraits>(
     }
     let range = layout.location.index_range(layout.size, total);
     match slice_at(value, range) {
-        Some(bytes) => read_index(alloc, codec, bytes.to_vec(alloc)?, layout.shape, options),
+        Some(bytes) => read_index(alloc, codec, bytes.to_vec(alloc)?, layout.shape),
         None => Err(CodecError::Damage),
     }
 }
@@ -65,7 +65,6 @@ pub fn fetch_index<X: ArrayToBytesCodecTraits, D: BytesPartialDecoderTraits>(
     codec: &X,
     source: &mut D,
     layout: IndexLayout<'_>,
-    options: &CodecOptions,
 ) -> Result<Option<FetchedIndex>, CodecError>
     requires fit { index_fits (X.meaning codec.now) layout.shape.now ≡ true }
     requires even { product layout.shape.now % 2 ≡ 0 }
@@ -85,8 +84,11 @@ pub fn fetch_index<X: ArrayToBytesCodecTraits, D: BytesPartialDecoderTraits>(
             }
             let range = layout.location.index_range(layout.size, total);
             match fetch_slice(alloc, source, total, range) {
-                Ok(bytes) => match read_index(alloc, codec, bytes, layout.shape, options) {
-                    Ok(index) => Ok(Some(FetchedIndex { index, total })),
+                Ok(bytes) => match read_index(alloc, codec, bytes, layout.shape) {
+                    Ok(index) => {
+                        let pairs = PresentPairs::from_index(alloc, &index)?;
+                        Ok(Some(FetchedIndex { pairs, total }))
+                    }
                     Err(error) => Err(error),
                 },
                 Err(error) => Err(error),

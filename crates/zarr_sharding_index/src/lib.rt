@@ -7,9 +7,12 @@ pub mod index;
 pub mod location;
 mod numbers;
 pub mod pair;
+pub mod present;
 pub mod shapes;
 pub mod stored;
 
 pub use held::{FetchedIndex, IndexLayout};
 pub use index::ShardIndex;
 pub use location::ShardingIndexLocation;
+pub use pair::PresentPair;
+pub use present::PresentPairs;

@@ -13,6 +13,13 @@ pub const ABSENT: ByteRange = ByteRange {
     length: u64::MAX,
 };
 
+/// The pair of a subchunk that is present, and the row-major number of that subchunk.
+#[derive(Clone, Copy, Debug, PartialEq, Eq)]
+pub struct PresentPair {
+    pub number: usize,
+    pub range: ByteRange,
+}
+
 /// Whether a pair is that of an absent subchunk.
 pub fn is_absent(pair: ByteRange) -> bool
     ensures { result ≡ is_absent (pair_of pair) }

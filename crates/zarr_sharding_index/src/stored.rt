@@ -10,7 +10,6 @@ use crate::index::ShardIndex;
 use crate::numbers::count_pairs;
 use std::alloc::{AllocError, Global};
 use zarr_codecs_arrays::{CodecError, Elements};
-use zarr_codecs_options::CodecOptions;
 use zarr_codecs_traits::{ArrayToBytesCodecTraits, BytesRepresentation};
 use zarr_codecs_types::FillValue;
 use zarr_codecs_types::data_type::uint64;
@@ -61,7 +60,6 @@ pub fn write_index<X: ArrayToBytesCodecTraits>(
     codec: &X,
     index: ShardIndex,
     shape: &[u64],
-    options: &CodecOptions,
 ) -> Result<Vec<u8>, CodecError>
     requires fit { index_fits (X.meaning codec.now) shape.now ≡ true }
     requires many { product shape.now ≡ 2 * length (pairs_of index) }
@@ -72,7 +70,7 @@ pub fn write_index<X: ArrayToBytesCodecTraits>(
         return Ok(index.into_bytes());
     }
     let elements = numbers(alloc)?;
-    codec.encode(alloc, index.into_numbers(), &elements, shape, options)
+    codec.encode_in_order(alloc, index.into_numbers(), &elements, shape)
 }
 
 /// The index of this shape that a codec reads from bytes. `Damage` where it reads none.
@@ -81,7 +79,6 @@ pub fn read_index<X: ArrayToBytesCodecTraits>(
     codec: &X,
     bytes: Vec<u8>,
     shape: &[u64],
-    options: &CodecOptions,
 ) -> Result<ShardIndex, CodecError>
     requires fit { index_fits (X.meaning codec.now) shape.now ≡ true }
     requires even { product shape.now % 2 ≡ 0 }
@@ -91,7 +88,7 @@ pub fn read_index<X: ArrayToBytesCodecTraits>(
         return index_as_is(bytes, shape);
     }
     let elements = numbers(alloc)?;
-    match codec.decode(alloc, bytes, &elements, shape, options) {
+    match codec.decode_in_order(alloc, bytes, &elements, shape) {
         Ok(pairs) => Ok(ShardIndex::from_numbers(pairs)?),
         Err(CodecError::Damage) => Err(CodecError::Damage),
         Err(_) => Err(CodecError::Memory),

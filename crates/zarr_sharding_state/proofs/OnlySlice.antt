@@ -1,10 +1,10 @@
 -- One slice that replaces a subchunk's.
-use Rattle.std.proofs.Common.{◌≡◌, ℕ, zero, suc, ◌-◌, ◌^◌, ◌<◌, List, [], ◌∷◌, length, get_or, set, ap, arith, refl, Some, None, true, false, Result, Ok, Err}
-use Rattle.std.specs.Prelude.{◌==◌, OnOk}
+use Rattle.std.proofs.Common.{◌≡◌, ◌∙◌, ℕ, zero, suc, ◌-◌, ◌^◌, ◌<◌, List, [], ◌∷◌, length, get_or, get_or-set_same, set, ap, arith, refl, Some, None, true, false}
+use Rattle.std.specs.Prelude.{◌==◌}
 use Rattle.std.specs.List.{list_all}
 use Rattle.std.proofs.lemmas.Bool.{and_left, and_parts, and_right, ltb-true, ne_eqb}
 use Rattle.zarr_codecs_meaning.specs.Decoding.{is_absent}
-use Rattle.zarr_codecs_meaning.specs.Encoding.{Pair}
+use Rattle.zarr_codecs_meaning.specs.Encoding.{Pair, absent_pair}
 use Rattle.zarr_sharding_changes.specs.Changes.{Change}
 use Rattle.zarr_sharding_state.specs.Held.{are_absent}
 use Rattle.zarr_sharding_state.specs.Views.{changes_of, is_below}
@@ -16,6 +16,11 @@ present_after [] n offset size low small = absurd (omega (arith, low))
 present_after (p ∷ ps) zero offset size low small =
     and_left (is_absent (offset, size)) (list_all is_absent ps) (and_left (offset == 2 ^ 64 - 1) (size == 2 ^ 64 - 1) (ne_eqb offset (2 ^ 64 - 1) (λ e. omega (arith, small, e))))
 present_after (p ∷ ps) (suc n) offset size low small = and_right (is_absent p) (are_absent (set ps n (offset, size))) (present_after ps n offset size (omega (arith, low)) small)
+
+-- so is that subchunk
+pub present_there : (pairs : List Pair) (n offset size : ℕ) → n < length pairs → offset < 2 ^ 64 - 1 → is_absent (get_or (set pairs n (offset, size)) n absent_pair) ≡ false
+present_there pairs n offset size low small =
+    ap is_absent (get_or-set_same pairs n (offset, size) absent_pair low) ∙ and_left (offset == 2 ^ 64 - 1) (size == 2 ^ 64 - 1) (ne_eqb offset (2 ^ 64 - 1) (λ e. omega (arith, small, e)))
 
 -- the only change is of a subchunk that is there
 pub only_below : (count n : ℕ) (slice : List ℕ) (changes : List SliceChange) → changes_of changes ≡ (n, Some slice) ∷ [] → list_all (is_below count) changes ≡ true → n < count
@@ -30,13 +35,3 @@ pub put_back : (pairs : List Pair) (n : ℕ) (pair other : Pair) → n < length 
 put_back [] n pair other low = absurd (omega (arith, low))
 put_back (p ∷ ps) zero pair other low = refl
 put_back (p ∷ ps) (suc n) pair other low = ap (λ (qs : List Pair). p ∷ qs) (put_back ps n pair other (omega (arith, low)))
-
--- what holds of a call that answered
-pub when_ok : {A E P : Type 0} (result : Result A E) (done : A) → result ≡ Ok done → OnOk result P → P
-when_ok (Ok x) done is h = h
-when_ok (Err e) done is h = cc
-
--- what follows where three facts hold of a call that answered
-pub all_when_ok : {A E P Q R S : Type 0} (result : Result A E) → (P → Q → R → S) → OnOk result P → OnOk result Q → OnOk result R → OnOk result S
-all_when_ok (Ok x) follows p q r = follows p q r
-all_when_ok (Err e) follows p q r = tt

@@ -15,7 +15,7 @@ use Rattle.zarr_codecs_arrays.specs.declared.error.CodecError.TheVariants as err
 use Rattle.zarr_sharding_changes.specs.Compaction.{data_in}
 use Rattle.zarr_sharding_index.specs.declared.held.FetchedIndex.{FetchedIndex}
 use Rattle.zarr_sharding_index.specs.Held.{IsFetched, held_pairs}
-use Rattle.zarr_sharding_index.specs.Views.{pairs_of}
+use Rattle.zarr_sharding_index.specs.Present.{all_pairs}
 use Rattle.zarr_sharding_state.specs.Held.{lies_between}
 use Rattle.zarr_sharding_state.specs.declared.known.KnownShard.{KnownShard}
 use Rattle.zarr_sharding_state.specs.Opened.{Misfits, OpenRefused, Opens, data_end}
@@ -47,7 +47,7 @@ misfit_damaged index location shape value found h (inr (inr outside)) =
     let size = index_size index shape in
     let base = base_of location size in
     let ends = data_ends location size value outside.0 (ap (data_end location size) (sym h.1) ∙ outside.1) in
-    inr (pairs_of found.index, h.0.is, subst (λ n. list_all (lies_between base n) (pairs_of found.index) ≡ false) ends outside.2)
+    inr (all_pairs found.pairs, h.0.is, subst (λ n. list_all (lies_between base n) (all_pairs found.pairs) ≡ false) ends outside.2)
 
 pub known_refused : (index : Chain) (location : Location) (shape : List ℕ) (contents : Option (List ℕ)) (fetched : Option FetchedIndex) (e : CodecError) → IsFetched index location shape contents fetched → Opens location shape (index_size index shape) fetched (Err e)
     → OpenRefused index location shape contents e

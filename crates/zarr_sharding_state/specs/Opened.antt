@@ -10,7 +10,7 @@ use Rattle.zarr_codecs_arrays.specs.declared.error.CodecError.TheVariants as err
 use Rattle.zarr_sharding_changes.specs.Compaction.{data_in}
 use Rattle.zarr_sharding_index.specs.declared.held.FetchedIndex.{FetchedIndex}
 use Rattle.zarr_sharding_index.specs.Held.{held_pairs}
-use Rattle.zarr_sharding_index.specs.Views.{pairs_of}
+use Rattle.zarr_sharding_index.specs.Present.{all_pairs}
 use Rattle.zarr_sharding_state.specs.Held.{lies_between}
 use Rattle.zarr_sharding_state.specs.declared.known.KnownShard.{KnownShard}
 
@@ -23,7 +23,7 @@ data_end at_end size total = if nat_le size total then Some (total - size) else 
 abbrev pub AreFetched : Location → List ℕ → ℕ → Option FetchedIndex → List Pair → ℕ → Type 0
 AreFetched location shape size None pairs end = (pairs ≡ replicate (product shape / 2) absent_pair) × (end ≡ base_of location size)
 AreFetched location shape size (Some found) pairs end =
-    (pairs ≡ pairs_of found.index) × (data_end location size found.total ≡ Some end) × (list_all (lies_between (base_of location size) end) pairs ≡ true)
+    (pairs ≡ all_pairs found.pairs) × (data_end location size found.total ≡ Some end) × (list_all (lies_between (base_of location size) end) pairs ≡ true)
 
 -- what is known of a shard by its fetched index
 pub record IsKnown (location : Location) (shape : List ℕ) (size : ℕ) (fetched : Option FetchedIndex) (pairs : List Pair) (end : ℕ) : Type 0 where
@@ -34,12 +34,12 @@ pub record IsKnown (location : Location) (shape : List ℕ) (size : ℕ) (fetche
 -- a fetched index isn't that of a shard: it is longer than the shard, has another number of pairs, or a present pair lies outside the data part
 abbrev pub Misfits : Location → List ℕ → ℕ → FetchedIndex → Type 0
 Misfits location shape size found =
-    (found.total < size) ⊎ (length (pairs_of found.index) ≡ product shape / 2 → ⊥)
-    ⊎ ((end : ℕ) × (data_end location size found.total ≡ Some end) × (list_all (lies_between (base_of location size) end) (pairs_of found.index) ≡ false))
+    (found.total < size) ⊎ (length (all_pairs found.pairs) ≡ product shape / 2 → ⊥)
+    ⊎ ((end : ℕ) × (data_end location size found.total ≡ Some end) × (list_all (lies_between (base_of location size) end) (all_pairs found.pairs) ≡ false))
 
 -- what is known of a shard by its fetched index, or why nothing is
 abbrev pub Opens : Location → List ℕ → ℕ → Option FetchedIndex → Result KnownShard CodecError → Type 0
-Opens location shape size fetched (Ok made) = IsKnown location shape size fetched (pairs_of made.index) made.end
+Opens location shape size fetched (Ok made) = IsKnown location shape size fetched (all_pairs made.pairs) made.end
 Opens location shape size fetched (Err error.Damage) = MatchOption fetched ⊥ (λ (found : FetchedIndex). Misfits location shape size found)
 Opens location shape size fetched (Err error.Size) = MatchOption fetched ⊥ (λ (found : FetchedIndex). 2 ^ 63 ≤ found.total)
 Opens location shape size fetched (Err error.Memory) = Unit {0}

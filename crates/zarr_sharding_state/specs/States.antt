@@ -5,12 +5,12 @@ use Rattle.zarr_codecs_meaning.specs.Decoding.{is_absent, slice_at}
 use Rattle.zarr_codecs_meaning.specs.Encoding.{Pair}
 use Rattle.zarr_codecs_arrays.specs.declared.error.CodecError.{CodecError}
 use Rattle.zarr_codecs_arrays.specs.declared.error.CodecError.TheVariants as error
-use Rattle.zarr_sharding_index.specs.Views.{pairs_of}
+use Rattle.zarr_sharding_index.specs.Present.{all_pairs}
 use Rattle.zarr_sharding_state.specs.declared.known.KnownShard.{KnownShard}
 
 -- the pairs of the shard's index
 abbrev pub pairs_in : KnownShard → List Pair
-pairs_in shard = pairs_of shard.index
+pairs_in shard = all_pairs shard.pairs
 
 -- where the shard's data part ends
 abbrev pub end_of : KnownShard → ℕ

@@ -9,19 +9,13 @@ use Rattle.zarr_codecs_arrays.specs.declared.error.CodecError.{CodecError}
 use Rattle.zarr_codecs_arrays.specs.declared.error.CodecError.TheVariants as error
 use Rattle.zarr_codecs_traits.specs.Patches.{written_at}
 use Rattle.zarr_sharding_changes.specs.Changes.{Change, appended}
-use Rattle.zarr_sharding_index.specs.Stored.{AreStoredAsIs, IsIndexWritten}
+use Rattle.zarr_sharding_index.specs.Stored.{IsIndexWritten}
 use Rattle.zarr_sharding_state.specs.Held.{are_absent, shard_length}
 
 -- a value with bytes appended to a data part that ends there, and with another index
 abbrev pub with_slices : Location → ℕ → List ℕ → List ℕ → List ℕ → List ℕ
 with_slices at_start end index_bytes slices value = written_at (written_at value 0 index_bytes) end slices
 with_slices at_end end index_bytes slices value = written_at (written_at value end slices) (end + length slices) index_bytes
-
--- a slice is appended, and the index is that of these pairs, stored as it is
-pub record IsAppendedAsIs (location : Location) (end : ℕ) (slice : List ℕ) (pairs : List Pair) (before after : Option (List ℕ)) : Type 0 where
-  pub index_bytes : List ℕ
-  pub stored : AreStoredAsIs pairs index_bytes
-  pub is : after ≡ Some (with_slices location end index_bytes slice (unwrap_or before []))
 
 -- the slices of changes are appended, and the index is that of the pairs after them
 pub record IsAppended (index : Chain) (exact : Bool) (location : Location) (shape : List ℕ) (changes : List Change) (end : ℕ) (pairs : List Pair) (before : Option (List ℕ)) (after : Option (List ℕ)) (ended : ℕ) : Type 0 where

@@ -4,13 +4,10 @@ ghost use Rattle.std.specs.Prelude.{◌<◌, ◌^◌};
 use crate::known::KnownShard;
 use crate::writing::{GivenChanges, ShardBytes, ShardChanges, append_bytes, take_only_slice};
 use std::alloc::Global;
-use std::mem::replace;
 use zarr_codecs_arrays::CodecError;
-use zarr_codecs_options::CodecOptions;
 use zarr_codecs_traits::{ArrayToBytesCodecTraits, ByteRange, BytesPartialEncoderTraits};
 use zarr_sharding_index::held::IndexLayout;
 use zarr_sharding_index::stored::write_index;
-use zarr_sharding_index::{ShardIndex, ShardingIndexLocation};
 
 /// The new slice of the subchunk with this number, and how the shard's index is laid out.
 #[derive(Drop)]
@@ -21,7 +18,7 @@ struct GivenSlice<'a> {
 }
 
 impl KnownShard {
-    ghost use Rattle.std.specs.Prelude.{◌≡◌, ◌+◌, ◌*◌, ◌<◌, ◌^◌, ◌∷◌, [], length, slice_set, true, Some, OnOk, OnErr, IsTrue, unwrap_or};
+    ghost use Rattle.std.specs.Prelude.{◌≡◌, ◌+◌, ◌*◌, ◌<◌, ◌^◌, ◌∷◌, [], length, false, true, Some, OnOk, OnErr, IsTrue};
     ghost use Rattle.std.specs.List.{list_all};
     ghost use Rattle.zarr_codecs_meaning.specs.Encoding.{index_size};
     ghost use Rattle.zarr_codecs_traits.specs.Sources.{refused_after};
@@ -30,21 +27,19 @@ impl KnownShard {
     ghost use Rattle.zarr_sharding_changes.specs.Changes.{appended, pairs_after};
     ghost use Rattle.zarr_sharding_index.specs.Stored.{index_fits};
     ghost use Rattle.zarr_sharding_index.specs.Views.{location_of};
-    ghost use Rattle.zarr_sharding_state.specs.Held.{shard_length};
+    ghost use Rattle.zarr_sharding_state.specs.Held.{are_absent};
     ghost use Rattle.zarr_sharding_state.specs.States.{end_of, pairs_in};
     ghost use Rattle.zarr_sharding_state.specs.Views.{changes_of, is_below};
-    ghost use Rattle.zarr_sharding_state.specs.Written.{AppendRefused, ChangesRefused, IsAppendedAsIs, IsChanged};
+    ghost use Rattle.zarr_sharding_state.specs.Written.{ChangesRefused, IsAppended, IsChanged};
 
     /// Replaces the slices of some subchunks, as `write_slices` does, with its errors. The slice of
-    /// a change that is the only one isn't copied before it goes out, and then neither is the
-    /// index, where its codec encodes elements as they stand in memory (`encodes_as_is`).
+    /// a change that is the only one isn't copied before it goes out.
     pub fn write_given<X: ArrayToBytesCodecTraits, E: BytesPartialEncoderTraits>(
         &mut self,
         alloc: Global,
         source: &mut E,
         codecs: &X,
         given: GivenChanges<'_>,
-        options: &CodecOptions,
     ) -> Result<(), CodecError>
         requires fit { index_fits (X.meaning codecs.now) given.layout.shape.now ≡ true }
         requires size { given.layout.size
@@ -85,12 +80,12 @@ impl KnownShard {
                     number,
                     slice,
                 };
-                self.write_slice(alloc, source, codecs, given, options)
+                self.write_slice(alloc, source, codecs, given)
             }
             None => {
                 let changes = changes.as_slice();
                 let given = ShardChanges { layout, changes };
-                self.write_slices(alloc, source, codecs, given, options)
+                self.write_slices(alloc, source, codecs, given)
             }
         }
     }
@@ -102,7 +97,6 @@ impl KnownShard {
         source: &mut E,
         codecs: &X,
         given: GivenSlice<'_>,
-        options: &CodecOptions,
     ) -> Result<(), CodecError>
         requires fit { index_fits (X.meaning codecs.now) given.layout.shape.now ≡ true }
         requires size { given.layout.size
@@ -136,92 +130,69 @@ impl KnownShard {
             accepted_after (E.accepted_writes source.old) result }
         ensures rewrites { E.rewrites source.old source.new }
     {
-        let GivenSlice {
-            layout,
-            number,
-            slice,
-        } = given;
-        let length = slice.len() as u64;
+        let number = given.number;
+        let length = given.slice.len() as u64;
         if length > 0x7fff_ffff_ffff_ffff - self.end {
             return Err(CodecError::Size);
         }
-        if codecs.encodes_as_is() {
-            return self.append_as_is(alloc, source, layout.location, number, slice);
-        }
         let offset = self.end;
-        let pair = ByteRange { offset, length };
-        let mut index = self.index.try_clone(alloc)?;
-        index.put(number, pair);
-        match write_index(alloc, codecs, index, layout.shape, options) {
-            Ok(index) => {
-                let bytes = ShardBytes {
-                    index,
-                    slices: slice,
-                };
-                let (written, _) = append_bytes(alloc, source, layout.location, offset, bytes);
-                match written {
-                    Ok(()) => {
-                        self.index.put(number, pair);
-                        self.end = offset + length;
-                        Ok(())
-                    }
-                    Err(error) => Err(error),
-                }
+        let before = self.pairs.get(number);
+        self.pairs.put(number, ByteRange { offset, length })?;
+        match self.append_slice(alloc, source, codecs, given) {
+            Ok(()) => {
+                self.end = offset + length;
+                Ok(())
             }
-            Err(error) => Err(error),
+            Err(error) => {
+                self.pairs.replace(number, before);
+                Err(error)
+            }
         }
     }
 
-    /// Appends the slice of one subchunk to the data part, and writes the index as it is, of which
-    /// no copy is made. An `Err` leaves the shard and what is known of it as they were.
-    fn append_as_is<E: BytesPartialEncoderTraits>(
-        &mut self,
+    /// Appends a slice to the data part, and writes the index of the pairs that are known, some of
+    /// which are present. An `Err` leaves the shard as it was; what is known of it stays.
+    fn append_slice<X: ArrayToBytesCodecTraits, E: BytesPartialEncoderTraits>(
+        &self,
         alloc: Global,
         source: &mut E,
-        location: ShardingIndexLocation,
-        number: usize,
-        slice: Vec<u8>,
+        codecs: &X,
+        given: GivenSlice<'_>,
     ) -> Result<(), CodecError>
-        requires room { end_of self.old + length slice.items < 2 ^ 63 }
-        requires below { number < length (pairs_in self.old) }
-        ensures pairs { OnOk result (pairs_in self.new
-            ≡ slice_set (pairs_in self.old) number (end_of self.old, length slice.items)) }
-        ensures end { OnOk result (end_of self.new ≡ end_of self.old + length slice.items) }
+        requires fit { index_fits (X.meaning codecs.now) given.layout.shape.now ≡ true }
+        requires many { product given.layout.shape.now ≡ 2 * length (pairs_in self.now) }
+        requires room { end_of self.now + length given.slice.items < 2 ^ 63 }
+        requires some { are_absent (pairs_in self.now) ≡ false }
         ensures ok { IsTrue (E.is_honest source.old) → OnOk result
-            (IsAppendedAsIs (location_of location) (end_of self.old) slice.items
-            (pairs_in self.new) (E.contents source.old) (E.contents source.new)) }
+            (IsAppended (X.meaning codecs.now) (X.is_function codecs.now)
+            (location_of given.entry.layout.location) given.entry.layout.shape.now
+            ((given.entry.number, Some given.entry.slice.items) ∷ []) (end_of self.now)
+            (pairs_in self.now) (E.contents source.old) (E.contents source.new)
+            (end_of self.now + length given.entry.slice.items)) }
         ensures err { IsTrue (E.is_honest source.old) →
             OnErr result (E.contents source.new ≡ E.contents source.old) }
-        ensures same { OnErr result ((pairs_in self.new ≡ pairs_in self.old)
-            × (end_of self.new ≡ end_of self.old)) }
-        ensures cause { IsTrue (E.is_honest source.old) → AppendRefused
-            (shard_length (location_of location) (16 * length (pairs_in self.old))
-            (end_of self.old + length slice.items)) result }
+        ensures cause { IsTrue (E.is_honest source.old) → ChangesRefused
+            (X.meaning codecs.now) (location_of given.entry.layout.location)
+            given.entry.layout.shape.now
+            ((given.entry.number, Some given.entry.slice.items) ∷ []) (end_of self.now)
+            (pairs_in self.now) result }
         ensures refused { E.refused_calls source.new ≡
             refused_after (E.refused_calls source.old) result }
         ensures accepted { E.accepted_writes source.new ≡
             accepted_after (E.accepted_writes source.old) result }
         ensures rewrites { E.rewrites source.old source.new }
     {
-        let offset = self.end;
-        let length = slice.len() as u64;
-        let before = self.index.get(number);
-        self.index.put(number, ByteRange { offset, length });
-        let bytes = ShardBytes {
-            index: replace(&mut self.index, ShardIndex::new(alloc)).into_bytes(),
-            slices: slice,
-        };
-        let (written, index) = append_bytes(alloc, source, location, offset, bytes);
-        self.index = ShardIndex::from_bytes(index);
-        match written {
-            Ok(()) => {
-                self.end = offset + length;
-                Ok(())
+        let layout = given.layout;
+        let index = self.pairs.to_index(alloc)?;
+        match write_index(alloc, codecs, index, layout.shape) {
+            Ok(index) => {
+                let bytes = ShardBytes {
+                    index,
+                    slices: given.slice,
+                };
+                append_bytes(alloc, source, layout.location, self.end, bytes)
             }
-            Err(error) => {
-                self.index.put(number, before);
-                Err(error)
-            }
+            Err(error) => Err(error),
         }
     }
 }

@@ -3,27 +3,25 @@ ghost use Rattle.std.specs.Prelude.{◌^◌, ◌<◌};
 
 use crate::opening::open_fetched;
 use crate::writing::{
-    ShardBytes, ShardChanges, SliceChange, append_bytes, appended_length, are_absent,
-    changed_index, join_slices, put_changes,
+    ShardBytes, ShardChanges, append_bytes, appended_length, changed_pairs, join_slices,
 };
 use std::alloc::Global;
 use zarr_codecs_arrays::CodecError;
-use zarr_codecs_options::CodecOptions;
 use zarr_codecs_traits::{
     ArrayToBytesCodecTraits, BytesPartialDecoderTraits, BytesPartialEncoderTraits,
 };
 use zarr_sharding_index::held::{IndexLayout, fetch_index, fetch_slice};
 use zarr_sharding_index::pair::is_absent;
 use zarr_sharding_index::stored::write_index;
-use zarr_sharding_index::{ShardIndex, ShardingIndexLocation};
+use zarr_sharding_index::{PresentPairs, ShardingIndexLocation};
 
-/// What is known of one shard in a source of bytes, which each call is lent: its index, and the
-/// place where its data part ends. Slices of subchunks are read by their pairs, and replaced by one
-/// writing call of the source (this project's profile). A contract sees the pairs of the index and
-/// the end of the data part.
+/// What is known of one shard in a source of bytes, which each call is lent: its index, of which
+/// the pairs of present subchunks are kept, and the place where its data part ends. Slices of
+/// subchunks are read by their pairs, and replaced by one writing call of the source (this
+/// project's profile). A contract sees the pairs of the index and the end of the data part.
 #[derive(Debug, Drop)]
 pub struct KnownShard {
-    pub(crate) index: ShardIndex,
+    pub(crate) pairs: PresentPairs,
     pub(crate) end: u64,
     ghost small: { end < 2 ^ 63 },
 }
@@ -37,8 +35,9 @@ impl KnownShard {
     ghost use Rattle.zarr_codecs_traits.specs.Writes.{WriteRefused, accepted_after};
     ghost use Rattle.zarr_grids_boxes.specs.Boxes.{product};
     ghost use Rattle.zarr_sharding_changes.specs.Changes.{appended, pairs_after};
+    ghost use Rattle.zarr_sharding_index.specs.Present.{all_pairs};
     ghost use Rattle.zarr_sharding_index.specs.Stored.{index_fits};
-    ghost use Rattle.zarr_sharding_index.specs.Views.{location_of, pairs_of};
+    ghost use Rattle.zarr_sharding_index.specs.Views.{location_of};
     ghost use Rattle.zarr_sharding_state.specs.Held.{IsOpened, shard_length};
     ghost use Rattle.zarr_sharding_state.specs.Opened.{OpenRefused};
     ghost use Rattle.zarr_sharding_state.specs.States.{HasSliceAt, end_of, pairs_in, slice_length};
@@ -55,7 +54,6 @@ impl KnownShard {
         source: &mut D,
         codecs: &X,
         layout: IndexLayout<'_>,
-        options: &CodecOptions,
     ) -> Result<KnownShard, CodecError>
         requires fit { index_fits (X.meaning codecs.now) layout.shape.now ≡ true }
         requires even { product layout.shape.now % 2 ≡ 0 }
@@ -76,7 +74,7 @@ impl KnownShard {
             D.given_bytes source.new ≤ D.given_bytes source.old + layout.entry.size }
         ensures follows { D.follows source.old source.new }
     {
-        match fetch_index(alloc, codecs, source, layout, options) {
+        match fetch_index(alloc, codecs, source, layout) {
             Ok(fetched) => open_fetched(alloc, fetched, layout),
             Err(error) => Err(error),
         }
@@ -86,14 +84,14 @@ impl KnownShard {
     pub fn len(&self) -> usize
         ensures { result ≡ length (pairs_in self.now) }
     {
-        self.index.len()
+        self.pairs.len()
     }
 
-    /// The index: where the slice of each subchunk stands.
-    pub fn index(&self) -> &ShardIndex
-        ensures { pairs_of result.now ≡ pairs_in self.now }
+    /// The pairs of the index: where the slice of each subchunk stands.
+    pub fn pairs(&self) -> &PresentPairs
+        ensures { all_pairs result.now ≡ pairs_in self.now }
     {
-        &self.index
+        &self.pairs
     }
 
     /// How many bytes the shard has, where the source holds one.
@@ -132,7 +130,7 @@ impl KnownShard {
             ≤ D.given_bytes source.old + slice_length (get_or (pairs_in self.now) n absent_pair) }
         ensures follows { D.follows source.old source.new }
     {
-        let pair = self.index.get(n);
+        let pair = self.pairs.get(n);
         if is_absent(pair) {
             return Ok(None);
         }
@@ -167,10 +165,10 @@ impl KnownShard {
             accepted_after (E.accepted_writes source.old) result }
         ensures rewrites { E.rewrites source.old source.new }
     {
-        let index = ShardIndex::all_absent(alloc, self.index.len())?;
+        let pairs = PresentPairs::all_absent(alloc, self.pairs.len());
         match source.erase() {
             Ok(()) => {
-                self.index = index;
+                self.pairs = pairs;
                 self.end = layout.location.base(layout.size);
                 Ok(())
             }
@@ -210,7 +208,6 @@ impl KnownShard {
         source: &mut E,
         codecs: &X,
         given: ShardChanges<'_>,
-        options: &CodecOptions,
     ) -> Result<(), CodecError>
         requires fit { index_fits (X.meaning codecs.now) given.layout.shape.now ≡ true }
         requires size { given.layout.size
@@ -248,47 +245,46 @@ impl KnownShard {
         if slices.len() as u64 > 0x7fff_ffff_ffff_ffff - self.end {
             return Err(CodecError::Size);
         }
-        let index = changed_index(alloc, &self.index, changes, self.end)?;
-        if are_absent(&index) {
+        let pairs = changed_pairs(alloc, &self.pairs, changes, self.end)?;
+        if pairs.are_absent() {
             match source.erase() {
                 Ok(()) => {
-                    self.index = index;
+                    self.pairs = pairs;
                     self.end = layout.location.base(layout.size);
                     Ok(())
                 }
                 Err(error) => Err(error),
             }
         } else {
-            match write_index(alloc, codecs, index, layout.shape, options) {
+            let index = pairs.to_index(alloc)?;
+            match write_index(alloc, codecs, index, layout.shape) {
                 Ok(index) => {
                     let bytes = ShardBytes { index, slices };
-                    self.append(alloc, source, layout.location, changes, bytes)
+                    self.append(alloc, source, layout.location, pairs, bytes)
                 }
                 Err(error) => Err(error),
             }
         }
     }
 
-    /// Appends the slices of changes to the data part, and puts another index in the place of the
-    /// one that was there. An `Err` leaves the shard and what is known of it as they were.
+    /// Appends slices to the data part, and puts another index, which is that of these pairs, in
+    /// the place of the one that was there. An `Err` leaves the shard and what is known of it as
+    /// they were.
     fn append<E: BytesPartialEncoderTraits>(
         &mut self,
         alloc: Global,
         source: &mut E,
         location: ShardingIndexLocation,
-        changes: &[SliceChange],
+        pairs: PresentPairs,
         bytes: ShardBytes,
     ) -> Result<(), CodecError>
-        requires slices { bytes.slices.items ≡ appended (changes_of changes.now) }
-        requires room { end_of self.old + length (appended (changes_of changes.now)) < 2 ^ 63 }
-        requires below { list_all (is_below (length (pairs_in self.old))) changes.now ≡ true }
-        ensures pairs { OnOk result (pairs_in self.new
-            ≡ pairs_after (end_of self.old) (changes_of changes.now) (pairs_in self.old)) }
+        requires { end_of self.old + length bytes.slices.items < 2 ^ 63 }
+        ensures pairs { OnOk result (pairs_in self.new ≡ all_pairs pairs) }
         ensures end { OnOk result (end_of self.new
-            ≡ end_of self.old + length (appended (changes_of changes.now))) }
+            ≡ end_of self.old + length bytes.slices.items) }
         ensures ok { IsTrue (E.is_honest source.old) → OnOk result
             (E.contents source.new ≡ Some (with_slices (location_of location)
-            (end_of self.old) bytes.index.items (appended (changes_of changes.now))
+            (end_of self.old) bytes.index.items bytes.slices.items
             (unwrap_or (E.contents source.old) []))) }
         ensures err { IsTrue (E.is_honest source.old) →
             OnErr result (E.contents source.new ≡ E.contents source.old) }
@@ -296,7 +292,7 @@ impl KnownShard {
             × (end_of self.new ≡ end_of self.old)) }
         ensures cause { IsTrue (E.is_honest source.old) → AppendRefused
             (shard_length (location_of location) (length bytes.index.items)
-            (end_of self.old + length (appended (changes_of changes.now)))) result }
+            (end_of self.old + length bytes.slices.items)) result }
         ensures refused { E.refused_calls source.new ≡
             refused_after (E.refused_calls source.old) result }
         ensures accepted { E.accepted_writes source.new ≡
@@ -304,10 +300,9 @@ impl KnownShard {
         ensures rewrites { E.rewrites source.old source.new }
     {
         let end = self.end + bytes.slices.len() as u64;
-        let (written, _) = append_bytes(alloc, source, location, self.end, bytes);
-        match written {
+        match append_bytes(alloc, source, location, self.end, bytes) {
             Ok(()) => {
-                put_changes(&mut self.index, changes, self.end);
+                self.pairs = pairs;
                 self.end = end;
                 Ok(())
             }

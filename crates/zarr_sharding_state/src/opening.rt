@@ -1,7 +1,8 @@
 //! What is known of a shard once its index is fetched.
 ghost use Rattle.std.specs.Prelude.{◌≡◌, ◌^◌, ◌<◌};
 ghost use Rattle.std.specs.List.{list_all};
-ghost use Rattle.zarr_sharding_index.specs.Views.{location_of, pair_of, pairs_of};
+ghost use Rattle.zarr_sharding_index.specs.Present.{all_pairs};
+ghost use Rattle.zarr_sharding_index.specs.Views.{location_of, pair_of};
 ghost use Rattle.zarr_sharding_state.specs.Held.{lies_between};
 ghost use Rattle.zarr_sharding_state.specs.Opened.{Opens, data_end};
 
@@ -12,7 +13,7 @@ use zarr_codecs_traits::ByteRange;
 use zarr_grids_boxes::walk::count_places;
 use zarr_sharding_index::held::IndexLayout;
 use zarr_sharding_index::pair::is_absent;
-use zarr_sharding_index::{FetchedIndex, ShardIndex, ShardingIndexLocation};
+use zarr_sharding_index::{FetchedIndex, PresentPairs, ShardingIndexLocation};
 
 /// The index of a shard and where its data part ends, where each present pair lies in that.
 /// `Damage` where one doesn't, and `Size` where the data part ends past 2^63 - 1 bytes.
@@ -30,20 +31,20 @@ pub(crate) fn open_fetched(
     };
     let base = layout.location.base(layout.size);
     let Some(found) = fetched else {
-        let index = ShardIndex::all_absent(alloc, (count / 2) as usize)?;
-        return Ok(KnownShard { index, end: base });
+        let pairs = PresentPairs::all_absent(alloc, (count / 2) as usize);
+        return Ok(KnownShard { pairs, end: base });
     };
     let Some(end) = data_end(layout.location, layout.size, found.total) else {
         return Err(CodecError::Damage);
     };
-    if found.index.len() as u64 != count / 2 || !all_lie_between(&found.index, base, end) {
+    if found.pairs.len() as u64 != count / 2 || !all_lie_between(&found.pairs, base, end) {
         return Err(CodecError::Damage);
     }
     if end > 0x7fff_ffff_ffff_ffff {
         return Err(CodecError::Size);
     }
     Ok(KnownShard {
-        index: found.index,
+        pairs: found.pairs,
         end,
     })
 }
@@ -61,11 +62,12 @@ fn data_end(location: ShardingIndexLocation, size: u64, total: u64) -> Option<u6
 }
 
 /// Whether each present pair lies in a data part from `base` to `end`.
-fn all_lie_between(index: &ShardIndex, base: u64, end: u64) -> bool
-    ensures { result ≡ list_all (lies_between base end) (pairs_of index.now) }
+fn all_lie_between(pairs: &PresentPairs, base: u64, end: u64) -> bool
+    ensures { result ≡ list_all (lies_between base end) (all_pairs pairs.now) }
 {
-    for n in 0..index.len() {
-        if !lies_between(index.get(n), base, end) {
+    let present = pairs.present();
+    for pair in present {
+        if !lies_between(pair.range, base, end) {
             return false;
         }
     }

@@ -5,16 +5,17 @@ ghost use Rattle.zarr_codecs_traits.specs.Patches.{any_too_far, patched_contents
 ghost use Rattle.zarr_codecs_traits.specs.Sources.{refused_after};
 ghost use Rattle.zarr_codecs_traits.specs.Writes.{accepted_after};
 ghost use Rattle.zarr_sharding_changes.specs.Changes.{appended, pairs_after};
-ghost use Rattle.zarr_sharding_index.specs.Views.{location_of, pairs_of};
-ghost use Rattle.zarr_sharding_state.specs.Held.{are_absent, shard_length};
+ghost use Rattle.zarr_sharding_index.specs.Present.{all_pairs};
+ghost use Rattle.zarr_sharding_index.specs.Views.{location_of};
+ghost use Rattle.zarr_sharding_state.specs.Held.{shard_length};
 ghost use Rattle.zarr_sharding_state.specs.Views.{changes_of, is_below};
 ghost use Rattle.zarr_sharding_state.specs.Written.{AppendRefused, with_slices};
 
 use std::alloc::{AllocError, Global};
 use zarr_codecs_arrays::CodecError;
 use zarr_codecs_traits::{ByteRange, BytesPartialEncoderTraits, ValuePatch};
-use zarr_sharding_index::pair::{ABSENT, is_absent};
-use zarr_sharding_index::{IndexLayout, ShardIndex, ShardingIndexLocation};
+use zarr_sharding_index::pair::ABSENT;
+use zarr_sharding_index::{IndexLayout, PresentPairs, ShardingIndexLocation};
 
 /// The number of a subchunk and the slice that it is encoded as anew, or none where it became all
 /// fill.
@@ -90,81 +91,73 @@ pub(crate) fn appended_length(changes: &[SliceChange]) -> Option<u64>
     Some(count)
 }
 
-/// The index after changes whose slices are appended from `end` on.
-pub(crate) fn changed_index(
+/// The pairs after changes whose slices are appended from `end` on.
+pub(crate) fn changed_pairs(
     alloc: Global,
-    index: &ShardIndex,
+    pairs: &PresentPairs,
     changes: &[SliceChange],
     end: u64,
-) -> Result<ShardIndex, AllocError>
+) -> Result<PresentPairs, AllocError>
     requires room { end + length (appended (changes_of changes.now)) < 2 ^ 63 }
-    requires below { list_all (is_below (length (pairs_of index.now))) changes.now ≡ true }
-    ensures { IfOk result (λ made. pairs_of made
-        ≡ pairs_after end (changes_of changes.now) (pairs_of index.now)) }
+    requires below { list_all (is_below (length (all_pairs pairs.now))) changes.now ≡ true }
+    ensures { IfOk result (λ made. all_pairs made
+        ≡ pairs_after end (changes_of changes.now) (all_pairs pairs.now)) }
 {
-    let mut made = index.try_clone(alloc)?;
-    put_changes(&mut made, changes, end);
+    let mut made = pairs.try_clone(alloc)?;
+    put_changes(&mut made, changes, end)?;
     Ok(made)
 }
 
-/// Puts the pairs of slices into an index, the first of which begins at `end`.
-pub(crate) fn put_changes(index: &mut ShardIndex, changes: &[SliceChange], end: u64)
+/// Puts the pairs of slices among others, the first of which begins at `end`.
+fn put_changes(
+    pairs: &mut PresentPairs,
+    changes: &[SliceChange],
+    end: u64,
+) -> Result<(), AllocError>
     requires room { end + length (appended (changes_of changes.now)) < 2 ^ 63 }
-    requires below { list_all (is_below (length (pairs_of index.old))) changes.now ≡ true }
-    ensures { pairs_of index.new ≡ pairs_after end (changes_of changes.now) (pairs_of index.old) }
+    requires below { list_all (is_below (length (all_pairs pairs.old))) changes.now ≡ true }
+    ensures { OnOk result (all_pairs pairs.new
+        ≡ pairs_after end (changes_of changes.now) (all_pairs pairs.old)) }
 {
     let mut offset = end;
     for change in changes {
         match &change.slice {
             Some(bytes) => {
                 let length = bytes.len() as u64;
-                index.put(change.number, ByteRange { offset, length });
+                pairs.put(change.number, ByteRange { offset, length })?;
                 offset += length;
             }
-            None => index.put(change.number, ABSENT),
+            None => pairs.put(change.number, ABSENT)?,
         }
     }
-}
-
-/// Whether no subchunk is present.
-pub(crate) fn are_absent(index: &ShardIndex) -> bool
-    ensures { result ≡ are_absent (pairs_of index.now) }
-{
-    for n in 0..index.len() {
-        if !is_absent(index.get(n)) {
-            return false;
-        }
-    }
-    true
+    Ok(())
 }
 
 /// Appends slices to the data part of a shard, which ends at `end`, and puts another index in the
-/// place of the one that was there, by one writing call. Gives the bytes of the index back.
+/// place of the one that was there, by one writing call.
 pub(crate) fn append_bytes<E: BytesPartialEncoderTraits>(
     alloc: Global,
     source: &mut E,
     location: ShardingIndexLocation,
     end: u64,
     bytes: ShardBytes,
-) -> (Result<(), CodecError>, Vec<u8>)
+) -> Result<(), CodecError>
     requires { end + length bytes.slices.items < 2 ^ 63 }
-    ensures index { result.1.items ≡ bytes.index.items }
-    ensures ok { IsTrue (E.is_honest source.old) → OnOk result.0
+    ensures ok { IsTrue (E.is_honest source.old) → OnOk result
         (E.contents source.new ≡ Some (with_slices (location_of location) end
         bytes.index.items bytes.slices.items (unwrap_or (E.contents source.old) []))) }
     ensures err { IsTrue (E.is_honest source.old) →
-        OnErr result.0 (E.contents source.new ≡ E.contents source.old) }
+        OnErr result (E.contents source.new ≡ E.contents source.old) }
     ensures cause { IsTrue (E.is_honest source.old) → AppendRefused
         (shard_length (location_of location) (length bytes.index.items)
-        (end + length bytes.slices.items)) result.0 }
+        (end + length bytes.slices.items)) result }
     ensures refused { E.refused_calls source.new ≡
-        refused_after (E.refused_calls source.old) result.0 }
+        refused_after (E.refused_calls source.old) result }
     ensures accepted { E.accepted_writes source.new ≡
-        accepted_after (E.accepted_writes source.old) result.0 }
+        accepted_after (E.accepted_writes source.old) result }
     ensures rewrites { E.rewrites source.old source.new }
 {
-    let written = source.partial_encode(alloc, &slice_patches(location, end, &bytes));
-    (written, bytes.index)
+    source.partial_encode(alloc, &slice_patches(location, end, &bytes))
 }
 
 /// The ranges to be written into a shard whose data part ends at `end`, so that slices are appended

@@ -2,6 +2,8 @@
 //! other parts are encoded to is in calls/sharding.calls.
 use crate::samples::{Chain, NONE, ONE_OF_FOUR, Value, chunk_shape, makes, transposition};
 use std::alloc::{AllocError, Global};
+use std::marker::Sync;
+use std::thread::Threads;
 use zarr_codecs::{ArrayToBytesCodec, BytesCodec, CodecError, data_type};
 use zarr_codecs_reverse::ReverseCodec;
 use zarr_sharding::{ShardedChain, ShardingCodec, ShardingCodecBuilder, ShardingIndexLocation};
@@ -20,24 +22,24 @@ fn builder(alloc: Global) -> Result<Builder, CodecError> {
 const CELLS: [u8; 16] = [0, 0, 5, 6, 0, 0, 7, 8, 0, 0, 0, 0, 0, 0, 0, 0];
 
 /// Whether a builder makes shards of `bytes`, with the index at the end.
-fn is_made_by_default(alloc: Global) -> Result<bool, CodecError> {
-    makes(alloc, &builder(alloc)?.build(), CELLS, ONE_OF_FOUR)
+fn is_made_by_default(rt: &(impl Threads + Sync), alloc: Global) -> Result<bool, CodecError> {
+    makes(rt, alloc, &builder(alloc)?.build(), CELLS, ONE_OF_FOUR)
 }
 
 #[test]
 fn a_builder_makes_what_is_not_said_by_default(rt: HostRuntime) {
-    assert!(rt; matches!(is_made_by_default(rt.alloc()), Ok(true)));
+    assert!(rt; matches!(is_made_by_default(&rt, rt.alloc()), Ok(true)));
 }
 
 /// Whether the codec that a builder shares makes them too.
-fn is_shared(alloc: Global) -> Result<bool, CodecError> {
+fn is_shared(rt: &(impl Threads + Sync), alloc: Global) -> Result<bool, CodecError> {
     let codec = builder(alloc)?.build_arc(alloc)?;
-    makes(alloc, &*codec, CELLS, ONE_OF_FOUR)
+    makes(rt, alloc, &*codec, CELLS, ONE_OF_FOUR)
 }
 
 #[test]
 fn a_builder_shares_what_it_makes(rt: HostRuntime) {
-    assert!(rt; matches!(is_shared(rt.alloc()), Ok(true)));
+    assert!(rt; matches!(is_shared(&rt, rt.alloc()), Ok(true)));
 }
 
 /// A builder that is told of the codecs of subchunks.
@@ -81,7 +83,7 @@ fn a_builder_takes_each_part_that_it_is_told_of(rt: HostRuntime) {
 
 /// Whether a chain of a transposition, a shard and a reversal makes a reversed shard of the
 /// transposed cells.
-fn is_made_of_its_parts(alloc: Global) -> Result<bool, CodecError> {
+fn is_made_of_its_parts(rt: &(impl Threads + Sync), alloc: Global) -> Result<bool, CodecError> {
     let reversal = vec![in alloc; ReverseCodec]?;
     let chain = ShardedChain::new(transposition(alloc)?, builder(alloc)?.build(), reversal);
     let want = Value {
@@ -89,10 +91,10 @@ fn is_made_of_its_parts(alloc: Global) -> Result<bool, CodecError> {
         pairs: &[NONE, NONE, 0x0400_0000_0000_0000, 0, NONE, NONE, NONE, NONE],
         back: &[8, 6, 7, 5],
     };
-    makes(alloc, &chain, CELLS, want)
+    makes(rt, alloc, &chain, CELLS, want)
 }
 
 #[test]
 fn a_chain_is_made_of_its_parts(rt: HostRuntime) {
-    assert!(rt; matches!(is_made_of_its_parts(rt.alloc()), Ok(true)));
+    assert!(rt; matches!(is_made_of_its_parts(&rt, rt.alloc()), Ok(true)));
 }

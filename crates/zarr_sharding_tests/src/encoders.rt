@@ -1,7 +1,9 @@
 //! A shard behind a lock, with bytes typed in by hand.
 use crate::samples::{NINE_PUT, ONE_OF_FOUR, Shards, are, bytes_of, elements, is, shards};
 use std::alloc::Global;
+use std::marker::Sync;
 use std::sync::Wait;
+use std::thread::Threads;
 use zarr_codecs::{
     ArrayBytes, BytesCodec, CodecError, CodecOptions, Elements, Indexer, MemorySource, WholeArray,
 };
@@ -20,7 +22,7 @@ fn shared<'a>(
         elements,
         shape: &[4, 4],
     };
-    match ShardState::open(alloc, codec, source, array, &CodecOptions::default()) {
+    match ShardState::open(alloc, codec, source, array) {
         Ok(state) => Ok(ShardingPartialEncoder::new(state)),
         Err((_, error)) => Err(error),
     }
@@ -28,7 +30,11 @@ fn shared<'a>(
 
 /// Whether the first, the third and the sixth place are read as 9, 5 and 0 once 9 is put at the
 /// first one.
-fn reads<R: Wait>(rt: &R, alloc: Global, encoder: &Encoder<'_>) -> Result<bool, CodecError> {
+fn reads<R: Threads + Wait + Sync>(
+    rt: &R,
+    alloc: Global,
+    encoder: &Encoder<'_>,
+) -> Result<bool, CodecError> {
     let (given, options) = (
         ArrayBytes::Fixed([9].to_vec(alloc)?),
         CodecOptions::default(),
@@ -40,7 +46,7 @@ fn reads<R: Wait>(rt: &R, alloc: Global, encoder: &Encoder<'_>) -> Result<bool, 
 
 /// Whether that is so of that shard, and its source then has the slice of the first subchunk behind
 /// the other one.
-fn is_put<R: Wait>(rt: &R, alloc: Global) -> Result<bool, CodecError> {
+fn is_put<R: Threads + Wait + Sync>(rt: &R, alloc: Global) -> Result<bool, CodecError> {
     let codec = shards(alloc, &[2, 2], ShardingIndexLocation::End)?;
     let elements = elements(alloc, 0)?;
     let encoder = shared(alloc, &codec, &elements)?;

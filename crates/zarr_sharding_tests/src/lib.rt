@@ -10,6 +10,8 @@ mod deep;
 #[cfg(test)]
 mod encoders;
 #[cfg(test)]
+mod many;
+#[cfg(test)]
 mod options;
 #[cfg(test)]
 mod samples;

@@ -1,6 +1,8 @@
 //! Options of shards.
 use crate::samples::{NONE, Nested, Shards, Value, chunk_shape, makes, plain};
 use std::alloc::Global;
+use std::marker::Sync;
+use std::thread::Threads;
 use zarr_codecs::{ArrayToBytesCodecTraits, BytesCodec, CodecError};
 use zarr_codecs_reverse::ReverseCodec;
 use zarr_sharding::{
@@ -64,8 +66,9 @@ const STORED: Value<'static> = Value {
 };
 
 /// Whether a shard of shards with the options makes it.
-fn is_row_major(alloc: Global) -> Result<bool, CodecError> {
+fn is_row_major(rt: &(impl Threads + Sync), alloc: Global) -> Result<bool, CodecError> {
     makes(
+        rt,
         alloc,
         &in_any_order(alloc)?.with_options(row_major()),
         CELLS,
@@ -75,7 +78,7 @@ fn is_row_major(alloc: Global) -> Result<bool, CodecError> {
 
 #[test]
 fn options_change_no_shard_but_its_order(rt: HostRuntime) {
-    assert!(rt; matches!(is_row_major(rt.alloc()), Ok(true)));
+    assert!(rt; matches!(is_row_major(&rt, rt.alloc()), Ok(true)));
 }
 
 /// The chain of an array whose shards of subchunks of [2,2] have shards of subchunks of [1,2].
@@ -89,12 +92,12 @@ fn array_chain(alloc: Global) -> Result<ArrayChain<ReverseCodec>, CodecError> {
 }
 
 /// Whether the chain of an array makes it that is given the options.
-fn array_is_row_major(alloc: Global) -> Result<bool, CodecError> {
+fn array_is_row_major(rt: &(impl Threads + Sync), alloc: Global) -> Result<bool, CodecError> {
     let chain = array_chain(alloc)?.with_codec_specific_options(row_major());
-    makes(alloc, &chain, CELLS, STORED)
+    makes(rt, alloc, &chain, CELLS, STORED)
 }
 
 #[test]
 fn shards_of_an_array_are_written_in_the_order_of_their_options(rt: HostRuntime) {
-    assert!(rt; matches!(array_is_row_major(rt.alloc()), Ok(true)));
+    assert!(rt; matches!(array_is_row_major(&rt, rt.alloc()), Ok(true)));
 }

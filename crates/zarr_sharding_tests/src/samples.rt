@@ -1,9 +1,11 @@
 //! What tests of shards share, with bytes typed in by hand.
 use std::alloc::Global;
+use std::marker::Sync;
+use std::thread::Threads;
 use zarr_codecs::{
     ArrayBytes, ArrayToArrayCodec, ArrayToBytesCodec, ArrayToBytesCodecTraits, BytesCodec,
     CodecChain, CodecError, CodecOptions, Elements, FillValue, TransposeCodec, TransposeOrder,
-    data_type,
+    WholeArray, data_type,
 };
 use zarr_codecs_reverse::ReverseCodec;
 use zarr_grids::ChunkShape;
@@ -126,13 +128,18 @@ pub(crate) fn are(elements: &ArrayBytes, bytes: &[u8]) -> bool {
 }
 
 /// Whether a codec makes this value of 16 cells in four rows.
-pub(crate) fn makes<C: ArrayToBytesCodecTraits>(
+pub(crate) fn makes<R: Threads + Sync, C: ArrayToBytesCodecTraits + Sync>(
+    rt: &R,
     alloc: Global,
     codec: &C,
     cells: [u8; 16],
     want: Value<'_>,
 ) -> Result<bool, CodecError> {
     let (given, elements) = (ArrayBytes::Fixed(cells.to_vec(alloc)?), elements(alloc, 0)?);
-    let made = codec.encode(alloc, given, &elements, &[4, 4], &CodecOptions::default())?;
+    let array = WholeArray {
+        elements: &elements,
+        shape: &[4, 4],
+    };
+    let made = codec.encode(rt, alloc, given, array, &CodecOptions::default())?;
     Ok(made.as_slice() == bytes_of(alloc, want)?.as_slice())
 }

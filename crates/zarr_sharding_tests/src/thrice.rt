@@ -1,8 +1,8 @@
 //! Shards of shards of shards. As types they nest without limit; documents have at most two in one
 //! another.
-use crate::samples::{NONE, Nested, Value, are, bytes_of, chunk_shape, elements, makes, nested};
+use crate::samples::{NONE, Nested, Value, are, bytes_of, chunk_shape, elements, nested};
 use std::alloc::Global;
-use zarr_codecs::{ArrayToBytesCodecTraits, BytesCodec, CodecError, CodecOptions};
+use zarr_codecs::{ArrayBytes, ArrayToBytesCodecTraits, BytesCodec, CodecError};
 use zarr_sharding::{ShardingCodec, ShardingIndexLocation, SubchunkWriteOrder};
 
 /// Shards of [2,4], whose subchunks are shards of [2,2], and theirs shards of [1,2].
@@ -26,14 +26,15 @@ const STORED: Value<'static> = Value {
 /// Whether the shard is decoded to these cells.
 fn reads(alloc: Global) -> Result<bool, CodecError> {
     let (value, elements) = (bytes_of(alloc, STORED)?, elements(alloc, 0)?);
-    let codec = thrice(alloc)?;
-    let read = codec.decode(alloc, value, &elements, &[4, 4], &CodecOptions::default())?;
+    let read = thrice(alloc)?.decode_in_order(alloc, value, &elements, &[4, 4])?;
     Ok(are(&read, &CELLS))
 }
 
 /// Whether these cells are encoded to the shard.
 fn writes(alloc: Global) -> Result<bool, CodecError> {
-    makes(alloc, &thrice(alloc)?, CELLS, STORED)
+    let (given, elements) = (ArrayBytes::Fixed(CELLS.to_vec(alloc)?), elements(alloc, 0)?);
+    let made = thrice(alloc)?.encode_in_order(alloc, given, &elements, &[4, 4])?;
+    Ok(made.as_slice() == bytes_of(alloc, STORED)?.as_slice())
 }
 
 #[test]

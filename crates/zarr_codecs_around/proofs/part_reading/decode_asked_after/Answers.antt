@@ -5,6 +5,7 @@ use Rattle.zarr_codecs_array_to_array.specs.Moving.{are_places}
 use Rattle.zarr_codecs_array_to_array.specs.Views.{codec_of}
 use Rattle.zarr_codecs_array_to_array.specs.declared.codec.ArrayToArrayCodec.{ArrayToArrayCodec}
 use Rattle.zarr_codecs_traits.specs.Indexers.{are_inside, asked_of, listed, numbers_asked}
+use Rattle.zarr_codecs_traits.specs.Arrays.{coded}
 use Rattle.zarr_codecs_traits.specs.Outcomes.{DecodesPart}
 use Rattle.zarr_codecs_traits.specs.ReadBytes.{most_of_numbers}
 use Rattle.zarr_codecs_around.specs.ArrayCodecs.{shape_after}
@@ -34,7 +35,7 @@ returns-in-Err-clause-part g c = λ honest.
     let asked = asked_of c.args.part.indexer in
     let stored = g.D.BytesPartialDecoderTraits.contents c.args.source.now in
     let e = c.in-Err.error in
-    subst (λ (codecs : List ArrayToArrayCodec). DecodesPart (with_array_codecs (codecs_of codecs) rest) elements shape stored asked (Err e)) (sym c.in-Some.ensures.cases.0)
+    subst (λ (codecs : List ArrayToArrayCodec). DecodesPart (coded (with_array_codecs (codecs_of codecs) rest) elements shape) stored asked (Err e)) (sym c.in-Some.ensures.cases.0)
     (unlisted_all codecs rest elements shape stored c.as_slice.result.now asked e c.in-Err.ensures)
 
 pub returns-clause-part : goal.returns-clause-part
@@ -51,10 +52,10 @@ returns-clause-part g c = λ honest.
     let inside : are_inside shape asked ≡ true = c.requires.inside in
     let last : c.as_slice-2.result.now ≡ shape_after codecs shape = c.as_slice-2.ensures.value ∙ c.in-Ok.ensures.last_is in
     let moved : c.as_slice-3.result.now ≡ numbers_after codecs shape numbers = c.as_slice-3.ensures.value ∙ (c.in-Ok.ensures.moved_are ∙ ap (numbers_after codecs shape) told) in
-    let read = subst (λ es. DecodesPart rest elements es stored (listed c.as_slice-3.result.now) r) last (c.decode_numbers.ensures.part honest) in
-    subst (λ (codecs : List ArrayToArrayCodec). DecodesPart (with_array_codecs (codecs_of codecs) rest) elements shape stored asked r) (sym c.in-Some.ensures.cases.0)
+    let read = subst (λ es. DecodesPart (coded rest elements es) stored (listed c.as_slice-3.result.now) r) last (c.decode_numbers.ensures.part honest) in
+    subst (λ (codecs : List ArrayToArrayCodec). DecodesPart (coded (with_array_codecs (codecs_of codecs) rest) elements shape) stored asked r) (sym c.in-Some.ensures.cases.0)
     (asked_by_numbers (with_array_codecs codecs rest) elements shape stored asked r inside
-    (lists_all codecs rest elements shape stored numbers r c.in-Ok.ensures.fit (asked_places shape asked inside) (subst (λ ns. DecodesPart rest elements (shape_after codecs shape) stored (listed ns) r) moved read)))
+    (lists_all codecs rest elements shape stored numbers r c.in-Ok.ensures.fit (asked_places shape asked inside) (subst (λ ns. DecodesPart (coded rest elements (shape_after codecs shape)) stored (listed ns) r) moved read)))
 
 pub returns-clause-given : goal.returns-clause-given
 returns-clause-given g c = λ plain honest.

@@ -7,6 +7,7 @@ use Rattle.zarr_codecs_meaning.specs.Fits.{is_plain}
 use Rattle.zarr_codecs_arrays.specs.Views.{elements_of}
 use Rattle.zarr_codecs_array_to_array.specs.Views.{codec_of}
 use Rattle.zarr_codecs_traits.specs.Indexers.{in_box, shape_has}
+use Rattle.zarr_codecs_traits.specs.Arrays.{coded}
 use Rattle.zarr_codecs_traits.specs.Outcomes.{DecodesPart}
 use Rattle.zarr_codecs_traits.specs.ReadBytes.{most_read}
 use Rattle.zarr_codecs_boxes.specs.Updates.{IsBoxIn}
@@ -47,8 +48,8 @@ returns-in-Err-clause-part g c = λ honest.
     let stored = g.D.BytesPartialDecoderTraits.contents c.args.source.now in
     let e = c.in-Err.error in
     let whole = sym (ap codecs_of (sym c.split_boxed.ensures) ∙ map-append codec_of c.split_boxed.result.0.now c.split_boxed.result.1.now) in
-    subst (λ (codecs : List ArrayCodec). DecodesPart (with_array_codecs codecs rest) elements shape stored (in_box region) (Err e)) whole
-    (subst (λ (chain : Chain). DecodesPart chain elements shape stored (in_box region) (Err e)) (sym (with_more first last rest))
+    subst (λ (codecs : List ArrayCodec). DecodesPart (coded (with_array_codecs codecs rest) elements shape) stored (in_box region) (Err e)) whole
+    (subst (λ (chain : Chain). DecodesPart (coded chain elements shape) stored (in_box region) (Err e)) (sym (with_more first last rest))
     (unboxed_read first (with_array_codecs last rest) elements shape stored region (in_box region) e c.in-Err.ensures))
 
 pub returns-in-Ok-decode_inner_box-clause-part : goal.returns-in-Ok-decode_inner_box-clause-part
@@ -66,9 +67,9 @@ returns-in-Ok-decode_inner_box-clause-part g c = λ honest.
     let found = c.in-Ok-decode_inner_box.found in
     let r = c.undo_box.result in
     let whole = sym (ap codecs_of (sym c.split_boxed.ensures) ∙ map-append codec_of c.split_boxed.result.0.now c.split_boxed.result.1.now) in
-    let read = subst (λ es. DecodesPart chain elements es stored (in_box moved) (Ok found)) c.as_slice.ensures.value (c.in-Ok-decode_inner_box.ensures.part honest) in
-    subst (λ (codecs : List ArrayCodec). DecodesPart (with_array_codecs codecs rest) elements shape stored (in_box region) r) whole
-    (subst (λ (chain : Chain). DecodesPart chain elements shape stored (in_box region) r) (sym (with_more first last rest))
+    let read = subst (λ es. DecodesPart (coded chain elements es) stored (in_box moved) (Ok found)) c.as_slice.ensures.value (c.in-Ok-decode_inner_box.ensures.part honest) in
+    subst (λ (codecs : List ArrayCodec). DecodesPart (coded (with_array_codecs codecs rest) elements shape) stored (in_box region) r) whole
+    (subst (λ (chain : Chain). DecodesPart (coded chain elements shape) stored (in_box region) r) (sym (with_more first last rest))
     (c.undo_box.ensures.undone chain stored place.shape.items moved c.in-Ok.ensures read))
 
 pub returns-in-Ok-decode_inner_box-clause-given : goal.returns-in-Ok-decode_inner_box-clause-given
@@ -112,9 +113,9 @@ returns-clause-part g c = λ honest.
     let e = c.in-Err-decode_inner_box.error in
     let box : IsBoxIn shape region = record { dimensions = c.args.part.subset.now.same; inside = c.args.part.inside } in
     let whole = sym (ap codecs_of (sym c.split_boxed.ensures) ∙ map-append codec_of c.split_boxed.result.0.now c.split_boxed.result.1.now) in
-    let read = subst (λ es. DecodesPart chain elements es stored (in_box moved) (Err e)) c.as_slice.ensures.value (c.in-Err-decode_inner_box.ensures.part honest) in
-    subst (λ (codecs : List ArrayCodec). DecodesPart (with_array_codecs codecs rest) elements shape stored (in_box region) (Err e)) whole
-    (subst (λ (chain : Chain). DecodesPart chain elements shape stored (in_box region) (Err e)) (sym (with_more first last rest))
+    let read = subst (λ es. DecodesPart (coded chain elements es) stored (in_box moved) (Err e)) c.as_slice.ensures.value (c.in-Err-decode_inner_box.ensures.part honest) in
+    subst (λ (codecs : List ArrayCodec). DecodesPart (coded (with_array_codecs codecs rest) elements shape) stored (in_box region) (Err e)) whole
+    (subst (λ (chain : Chain). DecodesPart (coded chain elements shape) stored (in_box region) (Err e)) (sym (with_more first last rest))
     (boxes_unread first chain elements shape stored region place.shape.items moved e box c.in-Ok.ensures read))
 
 pub returns-clause-given : goal.returns-clause-given

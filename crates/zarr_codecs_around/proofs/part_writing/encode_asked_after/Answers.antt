@@ -7,6 +7,7 @@ use Rattle.zarr_codecs_array_to_array.specs.Moving.{are_places}
 use Rattle.zarr_codecs_array_to_array.specs.Views.{codec_of}
 use Rattle.zarr_codecs_array_to_array.specs.declared.codec.ArrayToArrayCodec.{ArrayToArrayCodec}
 use Rattle.zarr_codecs_traits.specs.Indexers.{are_inside, asked_of, listed, numbers_asked}
+use Rattle.zarr_codecs_traits.specs.Arrays.{coded, update_of}
 use Rattle.zarr_codecs_traits.specs.PartWriting.{IsEncodedInto, IsPlaced, NotEncodedInto}
 use Rattle.zarr_codecs_around.specs.ArrayCodecs.{shape_after}
 use Rattle.zarr_codecs_around.specs.MovedNumbers.{numbers_after}
@@ -37,7 +38,7 @@ returns-in-Err-clause-cause g c = λ honest same.
     let payload = payload_of c.args.bytes in
     let old = g.E.BytesPartialDecoderTraits.contents c.args.source.now in
     let e = c.in-Err.error in
-    subst (λ (codecs : List ArrayToArrayCodec). NotEncodedInto {A = Unit {0}} (with_array_codecs (codecs_of codecs) rest) elements shape asked payload old (Err e)) (sym c.in-Some.ensures.cases.0)
+    subst (λ (codecs : List ArrayToArrayCodec). NotEncodedInto {A = Unit {0}} (coded (with_array_codecs (codecs_of codecs) rest) elements shape) (update_of asked payload old) (Err e)) (sym c.in-Some.ensures.cases.0)
     (unmoved_all codecs rest elements shape c.as_slice.result.now asked payload old e c.in-Err.ensures)
 
 pub returns-clause-ok : goal.returns-clause-ok
@@ -59,11 +60,11 @@ returns-clause-ok g c = λ honest.
     let told : c.as_slice.result.now ≡ numbers = c.as_slice.ensures.value ∙ c.in_ok-numbers.ensures.numbers in
     let last : c.as_slice-2.result.now ≡ shape_after codecs shape = c.as_slice-2.ensures.value ∙ c.in-Ok.ensures.last_is in
     let moved : c.as_slice-3.result.now ≡ numbers_after codecs shape numbers = c.as_slice-3.ensures.value ∙ (c.in-Ok.ensures.moved_are ∙ ap (numbers_after codecs shape) told) in
-    let found = subst (λ es. OnOk r ((cells : List Cell) × IsEncodedInto rest exact elements es (listed c.as_slice-3.result.now) payload cells old new)) last (c.encode_numbers.ensures.ok honest) in
-    let at = subst (λ ns. OnOk r ((cells : List Cell) × IsEncodedInto rest exact elements (shape_after codecs shape) (listed ns) payload cells old new)) moved found in
-    subst (λ (codecs : List ArrayToArrayCodec). OnOk r ((cells : List Cell) × IsEncodedInto (with_array_codecs (codecs_of codecs) rest) exact elements shape asked payload cells old new)) (sym c.in-Some.ensures.cases.0)
-    (on_written r ((cells : List Cell) × IsEncodedInto rest exact elements (shape_after codecs shape) (listed (numbers_after codecs shape numbers)) payload cells old new)
-    ((cells : List Cell) × IsEncodedInto chain exact elements shape asked payload cells old new)
+    let found = subst (λ es. OnOk r ((cells : List Cell) × IsEncodedInto (coded rest elements es) exact (update_of (listed c.as_slice-3.result.now) payload old) cells new)) last (c.encode_numbers.ensures.ok honest) in
+    let at = subst (λ ns. OnOk r ((cells : List Cell) × IsEncodedInto (coded rest elements (shape_after codecs shape)) exact (update_of (listed ns) payload old) cells new)) moved found in
+    subst (λ (codecs : List ArrayToArrayCodec). OnOk r ((cells : List Cell) × IsEncodedInto (coded (with_array_codecs (codecs_of codecs) rest) elements shape) exact (update_of asked payload old) cells new)) (sym c.in-Some.ensures.cases.0)
+    (on_written r ((cells : List Cell) × IsEncodedInto (coded rest elements (shape_after codecs shape)) exact (update_of (listed (numbers_after codecs shape numbers)) payload old) cells new)
+    ((cells : List Cell) × IsEncodedInto (coded chain elements shape) exact (update_of asked payload old) cells new)
     (λ w. (w.0, written_by_numbers chain exact elements shape asked payload w.0 old new inside (written_all codecs rest exact elements shape numbers payload w.0 old new c.in-Ok.ensures.fit (asked_places shape asked inside) w.1))) at)
 
 pub returns-clause-placed : goal.returns-clause-placed
@@ -95,7 +96,7 @@ returns-clause-cause g c = λ honest same.
     let last : c.as_slice-2.result.now ≡ shape_after codecs shape = c.as_slice-2.ensures.value ∙ c.in-Ok.ensures.last_is in
     let moved : c.as_slice-3.result.now ≡ numbers_after codecs shape numbers = c.as_slice-3.ensures.value ∙ (c.in-Ok.ensures.moved_are ∙ ap (numbers_after codecs shape) told) in
     let partly = subst (λ (codecs : List ArrayToArrayCodec). encodes_in_part (with_array_codecs (codecs_of codecs) rest) ≡ encodes_in_part rest) c.in-Some.ensures.cases.0 same in
-    let found = subst (λ es. NotEncodedInto rest elements es (listed c.as_slice-3.result.now) payload old r) last (c.encode_numbers.ensures.cause honest) in
-    let at = subst (λ ns. NotEncodedInto rest elements (shape_after codecs shape) (listed ns) payload old r) moved found in
-    subst (λ (codecs : List ArrayToArrayCodec). NotEncodedInto (with_array_codecs (codecs_of codecs) rest) elements shape asked payload old r) (sym c.in-Some.ensures.cases.0)
+    let found = subst (λ es. NotEncodedInto (coded rest elements es) (update_of (listed c.as_slice-3.result.now) payload old) r) last (c.encode_numbers.ensures.cause honest) in
+    let at = subst (λ ns. NotEncodedInto (coded rest elements (shape_after codecs shape)) (update_of (listed ns) payload old) r) moved found in
+    subst (λ (codecs : List ArrayToArrayCodec). NotEncodedInto (coded (with_array_codecs (codecs_of codecs) rest) elements shape) (update_of asked payload old) r) (sym c.in-Some.ensures.cases.0)
     (unwritten_by_numbers chain elements shape asked payload old r inside (unwritten_all codecs rest elements shape numbers payload old r c.in-Ok.ensures.fit (asked_places shape asked inside) partly at))

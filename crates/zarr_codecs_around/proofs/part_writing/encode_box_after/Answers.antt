@@ -10,6 +10,7 @@ use Rattle.zarr_codecs_meaning.specs.Types.{Cell}
 use Rattle.zarr_codecs_arrays.specs.Views.{elements_of, payload_of}
 use Rattle.zarr_codecs_array_to_array.specs.Views.{codec_of}
 use Rattle.zarr_codecs_traits.specs.Indexers.{in_box, shape_has}
+use Rattle.zarr_codecs_traits.specs.Arrays.{coded, update_of}
 use Rattle.zarr_codecs_traits.specs.PartWriting.{IsEncodedInto, IsPlaced, NotEncodedInto}
 use Rattle.zarr_codecs_boxes.specs.Updates.{IsBoxIn}
 use Rattle.zarr_codecs_around.specs.Views.{codecs_of, with_array_codecs}
@@ -57,8 +58,8 @@ returns-in-Err-clause-cause g c = λ honest partly.
     let whole = sym (ap codecs_of (sym c.split_boxed.ensures) ∙ map-append codec_of c.split_boxed.result.0.now c.split_boxed.result.1.now) in
     let all = subst (λ (codecs : List ArrayCodec). fits (with_array_codecs codecs rest) elements.type shape ≡ true) (sym whole) c.requires.fits in
     let fit = subst (λ (chain : Chain). fits chain elements.type shape ≡ true) (with_more first last rest) all in
-    subst (λ (codecs : List ArrayCodec). NotEncodedInto {A = Unit {0}} (with_array_codecs codecs rest) elements shape (in_box region) payload old (Err e)) whole
-    (subst (λ (chain : Chain). NotEncodedInto {A = Unit {0}} chain elements shape (in_box region) payload old (Err e)) (sym (with_more first last rest))
+    subst (λ (codecs : List ArrayCodec). NotEncodedInto {A = Unit {0}} (coded (with_array_codecs codecs rest) elements shape) (update_of (in_box region) payload old) (Err e)) whole
+    (subst (λ (chain : Chain). NotEncodedInto {A = Unit {0}} (coded chain elements shape) (update_of (in_box region) payload old) (Err e)) (sym (with_more first last rest))
     (unturned_into first (with_array_codecs last rest) elements shape region payload old e box fit c.in-Err.ensures))
 
 pub returns-in-Err-clause-refused : goal.returns-in-Err-clause-refused
@@ -85,11 +86,11 @@ returns-clause-ok g c = λ honest.
     let r = c.encode_inner_box.result in
     let box : IsBoxIn shape region = record { dimensions = c.args.part.subset.now.same; inside = c.args.part.inside } in
     let whole = sym (ap codecs_of (sym c.split_boxed.ensures) ∙ map-append codec_of c.split_boxed.result.0.now c.split_boxed.result.1.now) in
-    let found = subst (λ es. OnOk r ((cells : List Cell) × IsEncodedInto chain exact elements es (in_box moved) made cells old new)) c.as_slice.ensures.value (c.encode_inner_box.ensures.ok honest) in
-    subst (λ (codecs : List ArrayCodec). OnOk r ((cells : List Cell) × IsEncodedInto (with_array_codecs codecs rest) exact elements shape (in_box region) payload cells old new)) whole
-    (subst (λ (chain : Chain). OnOk r ((cells : List Cell) × IsEncodedInto chain exact elements shape (in_box region) payload cells old new)) (sym (with_more first last rest))
-    (on_written r ((cells : List Cell) × IsEncodedInto chain exact elements place.shape.items (in_box moved) made cells old new)
-    ((cells : List Cell) × IsEncodedInto (with_array_codecs first chain) exact elements shape (in_box region) payload cells old new)
+    let found = subst (λ es. OnOk r ((cells : List Cell) × IsEncodedInto (coded chain elements es) exact (update_of (in_box moved) made old) cells new)) c.as_slice.ensures.value (c.encode_inner_box.ensures.ok honest) in
+    subst (λ (codecs : List ArrayCodec). OnOk r ((cells : List Cell) × IsEncodedInto (coded (with_array_codecs codecs rest) elements shape) exact (update_of (in_box region) payload old) cells new)) whole
+    (subst (λ (chain : Chain). OnOk r ((cells : List Cell) × IsEncodedInto (coded chain elements shape) exact (update_of (in_box region) payload old) cells new)) (sym (with_more first last rest))
+    (on_written r ((cells : List Cell) × IsEncodedInto (coded chain elements place.shape.items) exact (update_of (in_box moved) made old) cells new)
+    ((cells : List Cell) × IsEncodedInto (coded (with_array_codecs first chain) elements shape) exact (update_of (in_box region) payload old) cells new)
     (boxes_written first chain exact elements shape region payload place.shape.items moved made old new box c.in-Ok.ensures) found))
 
 pub returns-clause-placed : goal.returns-clause-placed
@@ -134,7 +135,7 @@ returns-clause-cause g c = λ honest partly.
     let all = subst (λ (codecs : List ArrayCodec). encodes_in_part (with_array_codecs codecs rest) ≡ encodes_in_part rest) (sym whole) partly in
     let two = partly_split first last rest all in
     let each : encodes_in_part (with_array_codecs first chain) ≡ encodes_in_part chain = ap encodes_in_part (sym (with_more first last rest)) ∙ two.0 in
-    let found = subst (λ es. NotEncodedInto chain elements es (in_box moved) made old r) c.as_slice.ensures.value (c.encode_inner_box.ensures.cause honest two.1) in
-    subst (λ (codecs : List ArrayCodec). NotEncodedInto (with_array_codecs codecs rest) elements shape (in_box region) payload old r) whole
-    (subst (λ (chain : Chain). NotEncodedInto chain elements shape (in_box region) payload old r) (sym (with_more first last rest))
+    let found = subst (λ es. NotEncodedInto (coded chain elements es) (update_of (in_box moved) made old) r) c.as_slice.ensures.value (c.encode_inner_box.ensures.cause honest two.1) in
+    subst (λ (codecs : List ArrayCodec). NotEncodedInto (coded (with_array_codecs codecs rest) elements shape) (update_of (in_box region) payload old) r) whole
+    (subst (λ (chain : Chain). NotEncodedInto (coded chain elements shape) (update_of (in_box region) payload old) r) (sym (with_more first last rest))
     (boxes_unwritten first chain elements shape region payload place.shape.items moved made old r c.args.part.elements.now.fills box c.in-Ok.ensures each found))

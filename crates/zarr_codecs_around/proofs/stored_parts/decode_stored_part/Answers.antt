@@ -3,6 +3,7 @@ use Rattle.zarr_codecs_meaning.specs.Fits.{fits}
 use Rattle.zarr_codecs_types.specs.Views.{type_of}
 use Rattle.zarr_codecs_arrays.specs.Views.{elements_of}
 use Rattle.zarr_codecs_traits.specs.Indexers.{are_inside, asked_of}
+use Rattle.zarr_codecs_traits.specs.Arrays.{coded}
 use Rattle.zarr_codecs_traits.specs.Outcomes.{DecodesPart}
 use Rattle.zarr_codecs_traits.specs.Sources.{value_bytes}
 use Rattle.zarr_codecs_around.specs.Views.{with_codecs}
@@ -20,7 +21,7 @@ returns-in_default-value-clause-part g c =
     let elements = elements_of c.args.part.elements.now in
     let asked = asked_of c.args.part.indexer in
     let found = part_of_none (g.A.ArrayToBytesCodecTraits.meaning c.args.codec.now) codecs elements c.args.part.shape.now asked c.decode_inside.result c.decode_inside.ensures.part in
-    subst (λ value. DecodesPart (with_codecs (g.A.ArrayToBytesCodecTraits.meaning c.args.codec.now) codecs) elements c.args.part.shape.now (value_bytes value) asked c.decode_inside.result) (sym c.in_default-value.is) found
+    subst (λ value. DecodesPart (coded (with_codecs (g.A.ArrayToBytesCodecTraits.meaning c.args.codec.now) codecs) elements c.args.part.shape.now) (value_bytes value) asked c.decode_inside.result) (sym c.in_default-value.is) found
 
 pub returns-in-Ok-clause-part : goal.returns-in-Ok-clause-part
 returns-in-Ok-clause-part g c =
@@ -30,7 +31,7 @@ returns-in-Ok-clause-part g c =
     let asked = asked_of c.args.part.indexer in
     let undone = c.in-Ok.ensures in
     let found = part_undone chain codecs elements c.args.part.shape.now c.in-Some.value.items c.in-Ok.inside.items asked c.decode_inside-in-Ok.result undone c.decode_inside-in-Ok.ensures.part in
-    subst (λ value. DecodesPart (with_codecs chain codecs) elements c.args.part.shape.now (value_bytes value) asked c.decode_inside-in-Ok.result) (sym c.in-Some.is) found
+    subst (λ value. DecodesPart (coded (with_codecs chain codecs) elements c.args.part.shape.now) (value_bytes value) asked c.decode_inside-in-Ok.result) (sym c.in-Some.is) found
 
 pub returns-in-Err-decode_all-clause-part : goal.returns-in-Err-decode_all-clause-part
 returns-in-Err-decode_all-clause-part g c =
@@ -45,4 +46,4 @@ returns-in-Err-decode_all-clause-part g c =
     let inside : are_inside shape asked ≡ true = c.in_default.ensures in
     let refused = c.in-Err-decode_all.ensures in
     let found = part_not_undone chain codecs elements shape c.in-Some.value.items asked e fit inside refused in
-    subst (λ value. DecodesPart (with_codecs chain codecs) elements shape (value_bytes value) asked (Err e)) (sym c.in-Some.is) found
+    subst (λ value. DecodesPart (coded (with_codecs chain codecs) elements shape) (value_bytes value) asked (Err e)) (sym c.in-Some.is) found

@@ -60,8 +60,8 @@ returns g c =
     let codecs = map meaning c.args.codec.now.bytes_to_bytes.items in
     let value = c.args.value.now in
     let inside = c.in-Ok.inside.items in
-    let e = c.in-Err-compact.error in
+    let e = c.in-Err-compact_in_order.error in
     let same : c.in_ok-to_vec.field-0.items ≡ value = search rules in
     let given : all_decoded codecs value ≡ Some inside = ap (all_decoded codecs) (sym same) ∙ (ap (λ xs. all_decoded (map meaning xs) c.in_ok-to_vec.field-0.items) (sym c.as_slice-codecs.ensures.value) ∙ c.in-Ok.ensures) in
     compacts_refused (g.A.ArrayToBytesCodecTraits.meaning c.args.codec.now.codec) codecs (elements_of c.args.array.elements.now).type c.args.array.shape.now value inside e c.requires.shards given
-    (subst (λ ns. Compacts (g.A.ArrayToBytesCodecTraits.meaning c.args.codec.now.codec) (elements_of c.args.array.elements.now).type c.args.array.shape.now ns (Err e)) c.as_slice.ensures.value c.in-Err-compact.ensures)
+    (subst (λ ns. Compacts (g.A.ArrayToBytesCodecTraits.meaning c.args.codec.now.codec) (elements_of c.args.array.elements.now).type c.args.array.shape.now ns (Err e)) c.as_slice.ensures.value c.in-Err-compact_in_order.ensures)

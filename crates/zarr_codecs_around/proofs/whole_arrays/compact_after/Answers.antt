@@ -9,9 +9,9 @@ pub returns-in-Ok : goal.returns-in-Ok
 returns-in-Ok g c =
     let rest = g.A.ArrayToBytesCodecTraits.meaning c.args.rest.now in
     let type = (elements_of c.args.array.elements.now).type in
-    let r = c.compact.result in
+    let r = c.compact_in_order.result in
     compacts_before (codecs_of c.args.codecs.now) rest type c.args.array.shape.now c.args.value.now r c.in-Ok.ensures.0
-    (subst (λ es. Compacts rest type es c.args.value.now r) (c.as_slice.ensures.value ∙ c.in-Ok.ensures.1) c.compact.ensures)
+    (subst (λ es. Compacts rest type es c.args.value.now r) (c.as_slice.ensures.value ∙ c.in-Ok.ensures.1) c.compact_in_order.ensures)
 
 pub returns-in-Err : goal.returns-in-Err
 returns-in-Err g c =

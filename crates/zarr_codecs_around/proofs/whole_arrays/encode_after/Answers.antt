@@ -1,6 +1,7 @@
 use Rattle.std.proofs.Common.{◌≡◌, ◌∙◌, ap, sym, subst, true, false}
 use Rattle.zarr_codecs_meaning.specs.Fits.{fits}
 use Rattle.zarr_codecs_arrays.specs.Views.{elements_of, payload_of}
+use Rattle.zarr_codecs_traits.specs.Arrays.{coded}
 use Rattle.zarr_codecs_traits.specs.Outcomes.{Encodes}
 use Rattle.zarr_codecs_around.specs.Views.{codecs_of}
 use Rattle.zarr_codecs_around.proofs.AllArrayCodecs.{fits_before, unshaped_encodes}
@@ -30,8 +31,8 @@ returns-in-Ok-move_all g c =
     let shape = c.args.array.shape.now in
     let last = c.in-Ok.last.items in
     let fit : fits rest elements.type last ≡ true = ap (fits rest elements.type) (sym c.as_slice.ensures.value) ∙ (ap (λ t. fits rest t c.as_slice.result.now) (sym c.data_type.ensures) ∙ (sym c.in_ok-fits.ensures ∙ c.if-not-branch.false)) in
-    c.in-Ok-move_all.ensures rest exact c.encode.result (ap (fits rest elements.type) (sym c.in-Ok.ensures.1) ∙ fit)
-    (subst (λ es. Encodes rest exact elements es (payload_of c.in-Ok-move_all.moved) c.encode.result) (c.as_slice-in-Ok-move_all.ensures.value ∙ c.in-Ok.ensures.1) c.encode.ensures)
+    c.in-Ok-move_all.ensures rest exact c.encode_in_order.result (ap (fits rest elements.type) (sym c.in-Ok.ensures.1) ∙ fit)
+    (subst (λ es. Encodes (coded rest elements es) exact (payload_of c.in-Ok-move_all.moved) c.encode_in_order.result) (c.as_slice-in-Ok-move_all.ensures.value ∙ c.in-Ok.ensures.1) c.encode_in_order.ensures)
 
 pub returns : goal.returns
 returns g c =

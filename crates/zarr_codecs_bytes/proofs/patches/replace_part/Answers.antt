@@ -7,6 +7,7 @@ use Rattle.zarr_codecs_meaning.specs.Fits.{order_fits}
 use Rattle.zarr_codecs_meaning.specs.Payloads.{fixed}
 use Rattle.zarr_codecs_arrays.specs.Outcomes.{IsValid}
 use Rattle.zarr_codecs_arrays.specs.Views.{elements_of, payload_of}
+use Rattle.zarr_codecs_traits.specs.Arrays.{coded}
 use Rattle.zarr_codecs_traits.specs.PartEncoding.{EncodesPart}
 use Rattle.zarr_codecs_bytes.specs.Views.{bytes_chain, order_of}
 use Rattle.zarr_codecs_bytes.proofs.Decoding.{IsValid-at}
@@ -36,5 +37,5 @@ returns-in_ok-part_patches-in-Fixed c =
     let valid = IsValid-at c.data_type.ensures (c.in-Some.ensures.1 ∙ ap product c.shape.ensures) found.1 in
     let same : IsValid elements.type (fixed c.in-Fixed.bytes.items) count found.0 = subst (λ b. IsValid elements.type (payload_of b) count found.0) c.in-Fixed.is valid in
     let patches = c.in_ok-part_patches-in-Fixed.field-0 in
-    subst (λ b. EncodesPart (bytes_chain c.args.codec) true elements c.args.part.shape.now (region_of c.args.part.region.now) (payload_of b) (Ok (Some patches))) (sym c.in-Fixed.is)
+    subst (λ b. EncodesPart (coded (bytes_chain c.args.codec) elements c.args.part.shape.now) true (region_of c.args.part.region.now) (payload_of b) (Ok (Some patches))) (sym c.in-Fixed.is)
     (part_encodes (option_map order_of c.args.codec.endian) c.args.part c.in-Fixed.bytes.items found.0 patches c.requires same c.in_ok-part_patches-in-Fixed.ensures)

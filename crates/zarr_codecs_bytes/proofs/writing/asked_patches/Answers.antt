@@ -8,6 +8,7 @@ use Rattle.zarr_codecs_arrays.specs.Outcomes.{IsValid}
 use Rattle.zarr_codecs_arrays.specs.Views.{elements_of, payload_of}
 use Rattle.zarr_codecs_traits.specs.Indexers.{asked_of, numbers_asked}
 use Rattle.zarr_codecs_traits.specs.Patches.{patched, patches_in}
+use Rattle.zarr_codecs_traits.specs.Arrays.{coded, update_of}
 use Rattle.zarr_codecs_traits.specs.PartWriting.{IsEncodedInto}
 use Rattle.zarr_codecs_bytes.specs.Orders.{all_ordered}
 use Rattle.zarr_codecs_bytes.specs.Views.{bytes_chain, order_of}
@@ -45,7 +46,7 @@ returns-in_ok-element_patches-in-Fixed-clause-ok c = λ value long.
     let size : c.in-Ok.size ≡ product shape * width = c.in-Ok.ensures.ok ∙ ap (λ t. product shape * bytes_in (components t)) c.data_type-data_type.ensures in
     let put : PutsElements width c.in-Ok.size numbers content patches = c.in_ok-element_patches-in-Fixed.ensures in (
       given.cells,
-      subst (λ b. IsEncodedInto (bytes_chain c.args.codec) true elements shape asked (payload_of b) given.cells (Some value) (Some (patched value patches))) (sym c.in-Fixed.is)
+      subst (λ b. IsEncodedInto (coded (bytes_chain c.args.codec) elements shape) true (update_of asked (payload_of b) (Some value)) given.cells (Some (patched value patches))) (sym c.in-Fixed.is)
           (put_over order elements shape asked c.in-Fixed.bytes.items content given.cells value patches (
           record {
             fit = given.fit;

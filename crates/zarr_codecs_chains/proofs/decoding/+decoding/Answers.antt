@@ -12,6 +12,7 @@ use Rattle.zarr_codecs_meaning.proofs.KeptVariable.{vlen_fits}
 use Rattle.zarr_codecs_types.specs.Views.{type_of}
 use Rattle.zarr_codecs_arrays.specs.Views.{elements_of, payload_of}
 use Rattle.zarr_codecs_array_to_array.specs.declared.codec.ArrayToArrayCodec.{ArrayToArrayCodec}
+use Rattle.zarr_codecs_traits.specs.Arrays.{coded}
 use Rattle.zarr_codecs_traits.specs.Outcomes.{Decodes, UndoesBytes}
 use Rattle.zarr_codecs_sections.specs.Marks.{count_ones}
 use Rattle.zarr_codecs_sections.specs.Views.{width_of, location_of}
@@ -83,7 +84,7 @@ decode_chain-returns-in-Ok-decode_codec g t c =
     let found = c.in-Ok-decode_codec.found in
     let inside = c.in-Ok-decode_all.inside.items in
     let undone : all_decoded after c.args.value.items ≡ Some inside = ap (λ xs. all_decoded (map meaning xs) c.args.value.items) (sym c.as_slice-2.ensures.value) ∙ c.in-Ok-decode_all.ensures in
-    let inner = subst (λ es. Decodes chain elements es inside (Ok found)) c.as_slice-3.ensures.value c.in-Ok-decode_codec.ensures in
+    let inner = subst (λ es. Decodes (coded chain elements es) inside (Ok found)) c.as_slice-3.ensures.value c.in-Ok-decode_codec.ensures in
     let undoes = subst (λ (codecs : List ArrayToArrayCodec). UndoesAll (codecs_of codecs) elements shape found c.undo_all.result) c.as_slice-codecs.ensures.value c.undo_all.ensures in
     decodes_between (codecs_of before) chain after elements shape c.in-Ok.last.items c.args.value.items inside found c.undo_all.result made undone inner undoes
 
@@ -101,7 +102,7 @@ decode_chain-returns g t c =
     let e = c.in-Err-decode_codec.error in
     let inside = c.in-Ok-decode_all.inside.items in
     let undone : all_decoded after c.args.value.items ≡ Some inside = ap (λ xs. all_decoded (map meaning xs) c.args.value.items) (sym c.as_slice-2.ensures.value) ∙ c.in-Ok-decode_all.ensures in
-    let inner = subst (λ es. Decodes chain elements es inside (Err e)) c.as_slice-3.ensures.value c.in-Err-decode_codec.ensures in
+    let inner = subst (λ es. Decodes (coded chain elements es) inside (Err e)) c.as_slice-3.ensures.value c.in-Err-decode_codec.ensures in
     undecoded_between (codecs_of before) chain after elements shape c.in-Ok.last.items c.args.value.items inside e all made undone inner
 
 pub decode_below-returns-in_ok-mask_elements-in-Ok-clause-all : goal.decode_below-returns-in_ok-mask_elements-in-Ok-clause-all

@@ -19,6 +19,7 @@ use Rattle.zarr_codecs_chains.specs.Inside.{MakesInner, MakesSome}
 use Rattle.zarr_codecs_chains.specs.Chosen.{SuitsChosen, chosen_type}
 use Rattle.zarr_codecs_arrays.specs.Views.{elements_of, payload_of}
 use Rattle.zarr_codecs_array_to_array.specs.declared.codec.ArrayToArrayCodec.{ArrayToArrayCodec}
+use Rattle.zarr_codecs_traits.specs.Arrays.{coded}
 use Rattle.zarr_codecs_traits.specs.Outcomes.{Encodes, MakesBytes}
 use Rattle.zarr_codecs_around.specs.Codecs.{all_encoded}
 use Rattle.zarr_codecs_around.specs.ArrayCodecs.{EncodesShapes, MovesAll, all_fit, shape_after}
@@ -89,9 +90,9 @@ encode_chain-returns g t c =
     let r = c.encode_made.result in
     let moves = subst (λ (codecs : List ArrayToArrayCodec). MovesAll (codecs_of codecs) elements shape (payload_of c.args.bytes) (Ok moved)) c.as_slice-codecs.ensures.value c.in-Ok-move_all.ensures in
     let inner = c.encode_made.ensures chain elements c.as_slice-2.result.now (payload_of moved) (codec_lawful meaning g.met.B.BytesToBytesCodecTraits.lawful own.others.array_to_bytes) c.args.array.elements.now.fills c.encode_codec-made.ensures in
-    let whole = subst (λ xs. Encodes (with_codecs chain (map meaning xs)) true elements c.as_slice-2.result.now (payload_of moved) r) c.as_slice-3.ensures.value inner in
+    let whole = subst (λ xs. Encodes (coded (with_codecs chain (map meaning xs)) elements c.as_slice-2.result.now) true (payload_of moved) r) c.as_slice-3.ensures.value inner in
     encodes_between (codecs_of before) chain after elements shape c.in-Ok.last.items (payload_of c.args.bytes) moved r moves made fit
-    (subst (λ es. Encodes (with_codecs chain after) true elements es (payload_of moved) r) c.as_slice-2.ensures.value whole)
+    (subst (λ es. Encodes (coded (with_codecs chain after) elements es) true (payload_of moved) r) c.as_slice-2.ensures.value whole)
 
 pub encode_sections-returns-in-Err-Size : goal.encode_sections-returns-in-Err-Size
 encode_sections-returns-in-Err-Size g t c = λ elements shape cells same fill fit valid.

@@ -12,6 +12,7 @@ use Rattle.zarr_codecs_meaning.proofs.Lists.{some_same}
 use Rattle.zarr_codecs_types.specs.Views.{components_of}
 use Rattle.zarr_codecs_arrays.specs.Views.{elements_of}
 use Rattle.zarr_codecs_traits.specs.Indexers.{asked_of}
+use Rattle.zarr_codecs_traits.specs.Arrays.{coded}
 use Rattle.zarr_codecs_traits.specs.Outcomes.{IsPart}
 use Rattle.zarr_codecs_traits.specs.Sources.{bytes_in_ranges, concat_of, value_bytes}
 use Rattle.zarr_codecs_traits.specs.declared.byte_range.ByteRange.{ByteRange}
@@ -104,7 +105,7 @@ returns-in-Some-clause-part g c = λ honest value is long.
     let some : 0 < bytes_in parts = subst (λ (cs : List Component). 0 < bytes_in cs) packed.suits.are c.requires.positive in
     let sized : length value ≡ packed_size no_padding_byte first last parts (product shape) =
     long ∙ (ap (λ p. packed_size p first last (components_of packed.components.now) (product shape)) untold ∙ ap (λ (cs : List Component). packed_size no_padding_byte first last cs (product shape)) packed.suits.are) in
-    subst (λ (p : Padding). IsPart (packbits p first last) elements shape (Some value) asked (fixed c.in-Some.bytes.items)) (sym untold)
+    subst (λ (p : Padding). IsPart (coded (packbits p first last) elements shape) (Some value) asked (fixed c.in-Some.bytes.items)) (sym untold)
     (packed_part first last elements shape value c.in-Some.bytes.items asked packed.suits.fit some packed.inside sized (made ∙ same))
 
 pub returns-in-Ok-Some-clause-part : goal.returns-in-Ok-Some-clause-part

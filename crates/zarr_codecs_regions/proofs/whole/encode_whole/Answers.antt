@@ -1,6 +1,8 @@
 use Rattle.std.proofs.Common.{◌≡◌, None, Err}
 use Rattle.zarr_codecs_meaning.specs.Chunks.{chunk_decoded}
+use Rattle.zarr_codecs_meaning.specs.Refusals.{CodecRefuses}
 use Rattle.zarr_codecs_arrays.specs.Views.{elements_of, payload_of}
+use Rattle.zarr_codecs_traits.specs.Arrays.{coded, update_of}
 use Rattle.zarr_codecs_traits.specs.Indexers.{asked_of}
 use Rattle.zarr_codecs_traits.proofs.Damage.{not_put}
 use Rattle.zarr_codecs_regions.proofs.whole.encode_whole.Goals as goal
@@ -11,7 +13,8 @@ returns-in-Err-clause-cause g c = λ _.
     let elements = elements_of c.args.part.elements.now in
     let shape = c.args.part.shape.now in
     let stored = g.E.BytesPartialDecoderTraits.contents c.args.source.now in
-    not_put {A = Unit {0}} ⊥ (chunk_decoded chain elements shape stored ≡ None) chain elements shape (asked_of c.args.part.indexer) (payload_of c.args.bytes) stored (Err c.in-Err.error) (λ none. absurd none) (c.in-Err.ensures.cause stored)
+    not_put {A = Unit {0}} ⊥ (chunk_decoded chain elements shape stored ≡ None) (CodecRefuses chain elements shape) (CodecRefuses chain elements shape) (coded chain elements shape) (update_of (asked_of c.args.part.indexer) (payload_of c.args.bytes) stored) (Err c.in-Err.error)
+    (λ none. absurd none) (λ after is. is) (c.in-Err.ensures.cause stored)
 
 pub returns-in-Ok-Some-clause-rewrites : goal.returns-in-Ok-Some-clause-rewrites
 returns-in-Ok-Some-clause-rewrites g c =

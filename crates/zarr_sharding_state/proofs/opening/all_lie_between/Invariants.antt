@@ -1,9 +1,12 @@
 use Rattle.std.proofs.Common.{◌≡◌, drop}
 use Rattle.std.specs.List.{list_all}
-use Rattle.zarr_sharding_index.specs.Views.{pairs_of}
+use Rattle.zarr_sharding_index.specs.Views.{pair_of}
+use Rattle.zarr_sharding_index.specs.declared.pair.PresentPair.{PresentPair}
 use Rattle.zarr_sharding_state.specs.Held.{lies_between}
 use Rattle.zarr_sharding_state.proofs.opening.all_lie_between.Given as goal
 
 -- the pairs that are left decide
-abbrev pub invariant-loop-n : goal.invariant-loop-n
-invariant-loop-n l = list_all (lies_between l.base l.end) (drop l.n (pairs_of l.index)) ≡ list_all (lies_between l.base l.end) (pairs_of l.index)
+abbrev pub invariant-loop-pair : goal.invariant-loop-pair
+invariant-loop-pair l =
+    let lies = λ (p : PresentPair). lies_between l.base l.end (pair_of p.range) in
+    list_all lies (drop l.pair-index l.present) ≡ list_all lies l.present

@@ -7,6 +7,7 @@ use Rattle.zarr_grids_overlay.specs.Overlays.{extent_of}
 use Rattle.zarr_codecs_arrays.specs.Outcomes.{IsCounted}
 use Rattle.zarr_codecs_arrays.specs.Views.{payload_of}
 use Rattle.zarr_codecs_meaning.specs.Types.{is_fill, IsTooLarge}
+use Rattle.zarr_codecs_traits.specs.Arrays.{coded}
 use Rattle.zarr_codecs_traits.specs.PartEncoding.{EncodesPart}
 use Rattle.zarr_array_meaning.specs.Chunks.{holds_box}
 use Rattle.zarr_array_core.specs.ChunkValues.{CellsBecome}
@@ -84,6 +85,6 @@ returns-in-Ok-clause-ok g c =
       | else-not-empty-via-else-not-empty w ↦ (λ e. absurd (false≢true (sym e ∙ (sym c.in_ok-empty.ensures.ok ∙ w.if-not-empty.false))))
     ] in
     let are : AreShared write box payload sub empty = record { share = c.requires.writes.shares; rank = c.requires.writes.rank; fit = c.requires.fit; fine = c.args.self.now.elements.fills; are = elements; becomes = becomes; some = some } in
-    let encodes = subst (λ (s : List ℕ). EncodesPart document.chain exact document.elements s (relative (overlapped region box) box.start) payload (Ok c.in-Ok.patches)) c.shape-2.ensures
-    (subst (λ (p : Region). EncodesPart document.chain exact document.elements c.shape-2.result.now p payload (Ok c.in-Ok.patches)) part c.in-Ok.ensures) in
+    let encodes = subst (λ (s : List ℕ). EncodesPart (coded document.chain document.elements s) exact (relative (overlapped region box) box.start) payload (Ok c.in-Ok.patches)) c.shape-2.ensures
+    (subst (λ (p : Region). EncodesPart (coded document.chain document.elements c.shape-2.result.now) exact p payload (Ok c.in-Ok.patches)) part c.in-Ok.ensures) in
     found_patches write box payload sub c.in-Ok.patches are encodes

@@ -7,6 +7,7 @@ use Rattle.zarr_codecs_arrays.specs.Outcomes.{IsCounted}
 use Rattle.zarr_codecs_arrays.specs.Views.{payload_of}
 use Rattle.zarr_codecs_arrays.specs.declared.array_bytes.ArrayBytes.{ArrayBytes}
 use Rattle.zarr_codecs_traits.specs.Indexers.{in_box}
+use Rattle.zarr_codecs_traits.specs.Arrays.{coded}
 use Rattle.zarr_codecs_traits.specs.Outcomes.{IsPart}
 use Rattle.zarr_array_elements.proofs.Shared.{large_grows, shared_smaller}
 use Rattle.zarr_array_core.specs.Parts.{DecodesElements}
@@ -64,7 +65,7 @@ returns-then-not-are_so_many-clause-err g c = λ honest.
     let stored : Option (List ℕ) = get (g.S.ReadableStorageTraits.held c.args.store.now) c.args.key.now in
     let moved = rw c.start.ensures at c.seen_from-part.ensures in
     let meet = meets region own shared part c.requires.shares c.requires.shared moved in
-    let is : IsPart document.chain document.elements own.shape stored (in_box part) payload = subst (λ (shape : List ℕ). DecodesElements document shape stored part (Ok (Some c.in-Ok-Some.bytes))) c.shape.ensures
+    let is : IsPart (coded document.chain document.elements own.shape) stored (in_box part) payload = subst (λ (shape : List ℕ). DecodesElements document shape stored part (Ok (Some c.in-Ok-Some.bytes))) c.shape.ensures
     (subst (λ (o : Option ArrayBytes). DecodesElements document c.shape.result.now stored part (Ok o)) c.in-Ok-Some.field-0-is (c.in-Ok-Some.ensures.part honest)) in
     let counted = part_counted document region own shared part stored payload meet is in
     let count : c.count_elements-count.result ≡ product shared.shape = c.count_elements-count.ensures ∙ ap product (c.shape-2.ensures ∙ ap (λ (r : Region). r.shape) c.seen_from-part.ensures) in

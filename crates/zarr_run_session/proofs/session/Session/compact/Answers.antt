@@ -6,7 +6,7 @@ use Rattle.zarr_run_session.proofs.CompactSteps.{compact_steps}
 use Rattle.zarr_run_session.proofs.Refusals.{compact_not_found}
 use Rattle.zarr_run_session.proofs.Counts.{compaction_counts, not_found_counts}
 use Rattle.zarr_run_session.proofs.Bounds.{none_made, compact_bound}
-use Rattle.zarr_run_session.proofs.Crossing.{chain_sync}
+use Rattle.zarr_sharding_arrays.proofs.Crossing.{chain_sync}
 use Rattle.zarr_run_session.proofs.session.Session.compact.Goals as goal
 
 -- no array is held at the path

@@ -7,7 +7,7 @@ use Rattle.zarr_run_session.proofs.ReadSteps.{read_steps}
 use Rattle.zarr_run_session.proofs.Refusals.{read_not_found}
 use Rattle.zarr_run_session.proofs.Counts.{not_found_counts, read_counts}
 use Rattle.zarr_run_session.proofs.Bounds.{none_made, read_bound}
-use Rattle.zarr_run_session.proofs.Crossing.{chain_sync}
+use Rattle.zarr_sharding_arrays.proofs.Crossing.{chain_sync}
 use Rattle.zarr_run_session.proofs.session.Session.read_box.Goals as goal
 
 -- no array is held at the path

@@ -6,7 +6,7 @@ use Rattle.zarr_run_session.proofs.RewriteSteps.{rewrite_steps}
 use Rattle.zarr_run_session.proofs.Refusals.{rewrite_not_found}
 use Rattle.zarr_run_session.proofs.Counts.{change_counts, not_found_counts}
 use Rattle.zarr_run_session.proofs.Bounds.{none_made, rewrite_bound}
-use Rattle.zarr_run_session.proofs.Crossing.{chain_sync}
+use Rattle.zarr_sharding_arrays.proofs.Crossing.{chain_sync}
 use Rattle.zarr_run_session.proofs.session.Session.rewrite.Goals as goal
 
 -- no array is held at the path

@@ -9,7 +9,7 @@ use Rattle.zarr_run_session.proofs.Refusals.{write_not_found}
 use Rattle.zarr_run_session.proofs.WriteSteps.{write_steps}
 use Rattle.zarr_run_session.proofs.Counts.{change_counts, not_found_counts}
 use Rattle.zarr_run_session.proofs.Bounds.{none_made, write_bound}
-use Rattle.zarr_run_session.proofs.Crossing.{chain_sync}
+use Rattle.zarr_sharding_arrays.proofs.Crossing.{chain_sync}
 use Rattle.zarr_run_session.proofs.session.Session.write_box.Goals as goal
 
 -- no array is held at the path

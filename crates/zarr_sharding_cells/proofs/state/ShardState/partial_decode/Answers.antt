@@ -8,7 +8,8 @@ use Rattle.zarr_codecs_traits.specs.Indexers.{asked_of, numbers_asked}
 use Rattle.zarr_sharding_codec.specs.Reading.{IsTotalOf, ListsRead, shard_cells}
 use Rattle.zarr_sharding_decoder.specs.Pairs.{index_length}
 use Rattle.zarr_sharding_decoder.specs.Shards.{ShardOf}
-use Rattle.zarr_sharding_index.specs.Views.{location_of, pairs_of}
+use Rattle.zarr_sharding_index.specs.Present.{all_pairs}
+use Rattle.zarr_sharding_index.specs.Views.{location_of}
 use Rattle.zarr_sharding_state.specs.Held.{shard_length}
 use Rattle.zarr_sharding_state.specs.States.{end_of, pairs_in}
 use Rattle.zarr_sharding_cells.specs.Tables.{Held, held_as}
@@ -28,7 +29,7 @@ read_asked-requires-clause-many g c =
       elements = elements_of self.elements.now;
       shape = self.shape.now;
     } in
-    ap (λ (ps : List Pair). length ps) c.index.ensures ∙ pairs_count s self.pairs_shape.items (pairs_in self.known) self.cut self.many
+    ap (λ (ps : List Pair). length ps) c.pairs.ensures ∙ pairs_count s self.pairs_shape.items (pairs_in self.known) self.cut self.many
 
 pub returns-clause-part : goal.returns-clause-part
 returns-clause-part g c = λ honest told.
@@ -44,13 +45,13 @@ returns-clause-part g c = λ honest told.
     } in
     let contents = g.E.BytesPartialDecoderTraits.contents self.source in
     let held : Held = held_as contents (pairs_in self.known) (end_of self.known) in
-    let lent = pairs_of c.index.result.now in
+    let lent = all_pairs c.pairs.result.now in
     let asked = asked_of c.args.indexer in
     let numbers = numbers_asked s.shape asked in
     let result = c.read_asked.result in
     let size_is = self.sized ∙ ap (index_size s.index) self.cut in
     let long = c.total.ensures ∙ (ap (λ (l : Location). shard_length l self.size held.end) c.index_location.ensures ∙ ap (λ n. shard_length s.location n held.end) size_is) in
-    let total = subst (λ (ps : List Pair). IsTotalOf contents ps c.total.result) (sym c.index.ensures) (told_total s held c.total.result told long) in
-    let read = subst (λ (ps : List Pair). ListsRead s.elements s.shape (shard_cells s.inner s.elements s.shape s.subchunk (unwrap_or contents []) ps numbers) result) c.index.ensures (c.read_asked.ensures.part honest total) in
+    let total = subst (λ (ps : List Pair). IsTotalOf contents ps c.total.result) (sym c.pairs.ensures) (told_total s held c.total.result told long) in
+    let read = subst (λ (ps : List Pair). ListsRead s.elements s.shape (shard_cells s.inner s.elements s.shape s.subchunk (unwrap_or contents []) ps numbers) result) c.pairs.ensures (c.read_asked.ensures.part honest total) in
     part_read_back s numbers asked self.fit c.in_default.ensures refl (regions.asked_places s.shape asked c.in_default.ensures) held result
     (pairs_count s self.pairs_shape.items held.pairs self.cut self.many) told read

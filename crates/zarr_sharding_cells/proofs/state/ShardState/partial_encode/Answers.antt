@@ -32,7 +32,11 @@ returns-in-Ok-clause-ok g c = λ honest told.
     let made = c.put_asked.new.self in
     let new : Held = held_as (contents made.source) (pairs_in made.known) (end_of made.known) in
     let known : IsKnown s old = record {
-      lawful = (g.met.I.ArrayToBytesCodecTraits.lawful codec.inner_codecs, g.met.X.ArrayToBytesCodecTraits.lawful codec.index_codecs);
+      -- (a codec is lawful wherever a thread may run, so here too)
+      lawful = (
+        (g.met.I.ArrayToBytesCodecTraits g.world.𝓛 g.world.𝓜 g.world.𝓡 ((λ s x. x), (λ x. x), (λ x. x), λ x. x)).lawful codec.inner_codecs,
+        (g.met.X.ArrayToBytesCodecTraits g.world.𝓛 g.world.𝓜 g.world.𝓡 ((λ s x. x), (λ x. x), (λ x. x), λ x. x)).lawful codec.index_codecs,
+      );
       fill = self.elements.now.fills;
       fit = self.fit;
       small = self.small;

@@ -13,8 +13,8 @@ returns g c =
     let elements = elements_of c.args.array.elements.now in
     let shape = c.args.array.shape.now in
     let slice = c.args.slice.items in
-    let r = c.decode.result in
-    let lists = slice_whole inner elements shape slice r c.requires.fit c.requires.some c.decode.ensures in
+    let r = c.decode_in_order.result in
+    let lists = slice_whole inner elements shape slice r c.requires.fit c.requires.some c.decode_in_order.ensures in
     record { part = lists; no_source = λ count. lists_unrefused elements shape (slice_cells inner elements shape slice (place_numbers shape)) r count lists }
 
 pub returns-then-is_as_is : goal.returns-then-is_as_is

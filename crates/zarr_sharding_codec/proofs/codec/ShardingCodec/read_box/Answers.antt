@@ -7,7 +7,8 @@ use Rattle.zarr_codecs_regions.proofs.AskedPlaces as regions
 use Rattle.zarr_codecs_traits.specs.Indexers.{in_box, numbers_of}
 use Rattle.zarr_grids_boxes.specs.Boxes.{product}
 use Rattle.zarr_grids_boxes.specs.Subsets.{region_of}
-use Rattle.zarr_sharding_index.specs.Views.{location_of, pairs_of}
+use Rattle.zarr_sharding_index.specs.Present.{all_pairs}
+use Rattle.zarr_sharding_index.specs.Views.{location_of}
 use Rattle.zarr_sharding_codec.specs.BoxReading.{IsBoxInside}
 use Rattle.zarr_sharding_codec.specs.declared.box_reading.BoxInside.{BoxInside}
 use Rattle.zarr_sharding_codec.proofs.BoxInSubchunk.{inside_given, inside_read, numbers_many}
@@ -56,7 +57,7 @@ returns-in-Some-clause-part g c = λ honest told.
       shape = shape;
       subchunk = self.subchunk_shape;
       value = unwrap_or (g.D.BytesPartialDecoderTraits.contents c.args.source.now) [];
-      pairs = pairs_of c.args.shard.index.now;
+      pairs = all_pairs c.args.shard.pairs.now;
       numbers = numbers_of shape asked;
     } in
     let k = c.in-Some.number in
@@ -76,7 +77,7 @@ returns-in-Some-clause-given g c = λ honest.
       shape = shape;
       subchunk = self.subchunk_shape;
       value = [];
-      pairs = pairs_of c.args.shard.index.now;
+      pairs = all_pairs c.args.shard.pairs.now;
       numbers = numbers_of shape asked;
     } in
     let k = c.in-Some.number in
@@ -134,7 +135,7 @@ returns-in-Some-2-clause-part g c = λ honest told.
       shape = shape;
       subchunk = self.subchunk_shape;
       value = unwrap_or (g.D.BytesPartialDecoderTraits.contents c.args.source.now) [];
-      pairs = pairs_of c.args.shard.index.now;
+      pairs = all_pairs c.args.shard.pairs.now;
       numbers = numbers_of shape asked;
     } in
     let can = askable s (g.X.ArrayToBytesCodecTraits.meaning self.index_codecs) (location_of self.index_location) c.requires.fit c.requires.many (regions.asked_places shape (in_box asked) c.requires.inside) in
@@ -153,7 +154,7 @@ returns-in-Some-2-clause-given g c = λ honest.
       shape = shape;
       subchunk = self.subchunk_shape;
       value = [];
-      pairs = pairs_of c.args.shard.index.now;
+      pairs = all_pairs c.args.shard.pairs.now;
       numbers = numbers_of shape asked;
     } in
     let can = askable s (g.X.ArrayToBytesCodecTraits.meaning self.index_codecs) (location_of self.index_location) c.requires.fit c.requires.many (regions.asked_places shape (in_box asked) c.requires.inside) in

@@ -8,7 +8,8 @@ use Rattle.zarr_codecs_traits.specs.Indexers.{in_box, numbers_of}
 use Rattle.zarr_codecs_traits.specs.Sources.{refused_after}
 use Rattle.zarr_grids_boxes.specs.Boxes.{product}
 use Rattle.zarr_grids_boxes.specs.Subsets.{region_of}
-use Rattle.zarr_sharding_index.specs.Views.{location_of, pairs_of}
+use Rattle.zarr_sharding_index.specs.Present.{all_pairs}
+use Rattle.zarr_sharding_index.specs.Views.{location_of}
 use Rattle.zarr_sharding_places.specs.Boxed.{ShowsBoxes}
 use Rattle.zarr_sharding_places.specs.Locating.{part_shape}
 use Rattle.zarr_sharding_codec.specs.BoxReading.{AreMet, StandIn}
@@ -83,7 +84,7 @@ loop-j-init g c =
             shape = c.args.asked.shape.now;
             subchunk = self.subchunk_shape;
             value = unwrap_or (g.D.BytesPartialDecoderTraits.contents c.args.source.now) [];
-            pairs = pairs_of c.args.shard.index.now;
+            pairs = all_pairs c.args.shard.pairs.now;
             numbers = numbers_of c.args.asked.shape.now region;
           } in
           let count : c.in-Some.count ≡ length s.numbers = c.in-Some.ensures.1 ∙ (ap product c.shape-lengths.ensures ∙ sym (numbers_many s.shape region c.args.asked.region.now.same)) in
@@ -95,7 +96,7 @@ loop-j-init g c =
             shape = c.args.asked.shape.now;
             subchunk = self.subchunk_shape;
             value = [];
-            pairs = pairs_of c.args.shard.index.now;
+            pairs = all_pairs c.args.shard.pairs.now;
             numbers = numbers_of c.args.asked.shape.now region;
           } in
           given_begun s c.as_slice-met.result.now (g.D.BytesPartialDecoderTraits.given_bytes c.args.source.now);
@@ -126,7 +127,7 @@ loop-j-preserved g c =
             shape = c.args.asked.shape.now;
             subchunk = self.subchunk_shape;
             value = unwrap_or (g.D.BytesPartialDecoderTraits.contents c.args.source.now) [];
-            pairs = pairs_of c.args.shard.index.now;
+            pairs = all_pairs c.args.shard.pairs.now;
             numbers = numbers_of c.args.asked.shape.now region;
           } in
           let can = askable s (g.X.ArrayToBytesCodecTraits.meaning self.index_codecs) (location_of self.index_location) c.requires.fit c.requires.many (regions.asked_places s.shape (in_box region) c.requires.inside) in
@@ -146,7 +147,7 @@ loop-j-preserved g c =
             shape = c.args.asked.shape.now;
             subchunk = self.subchunk_shape;
             value = [];
-            pairs = pairs_of c.args.shard.index.now;
+            pairs = all_pairs c.args.shard.pairs.now;
             numbers = numbers_of c.args.asked.shape.now region;
           } in
           let can = askable s (g.X.ArrayToBytesCodecTraits.meaning self.index_codecs) (location_of self.index_location) c.requires.fit c.requires.many (regions.asked_places s.shape (in_box region) c.requires.inside) in
@@ -183,7 +184,7 @@ returns-in-Err g c =
             shape = c.args.asked.shape.now;
             subchunk = self.subchunk_shape;
             value = unwrap_or (g.D.BytesPartialDecoderTraits.contents c.args.source.now) [];
-            pairs = pairs_of c.args.shard.index.now;
+            pairs = all_pairs c.args.shard.pairs.now;
             numbers = numbers_of c.args.asked.shape.now region;
           } in
           let can = askable s (g.X.ArrayToBytesCodecTraits.meaning self.index_codecs) (location_of self.index_location) c.requires.fit c.requires.many (regions.asked_places s.shape (in_box region) c.requires.inside) in
@@ -201,7 +202,7 @@ returns-in-Err g c =
             shape = c.args.asked.shape.now;
             subchunk = self.subchunk_shape;
             value = [];
-            pairs = pairs_of c.args.shard.index.now;
+            pairs = all_pairs c.args.shard.pairs.now;
             numbers = numbers_of c.args.asked.shape.now region;
           } in
           let can = askable s (g.X.ArrayToBytesCodecTraits.meaning self.index_codecs) (location_of self.index_location) c.requires.fit c.requires.many (regions.asked_places s.shape (in_box region) c.requires.inside) in
@@ -231,7 +232,7 @@ returns g c =
             shape = c.args.asked.shape.now;
             subchunk = self.subchunk_shape;
             value = unwrap_or (g.D.BytesPartialDecoderTraits.contents c.args.source.now) [];
-            pairs = pairs_of c.args.shard.index.now;
+            pairs = all_pairs c.args.shard.pairs.now;
             numbers = numbers_of c.args.asked.shape.now region;
           } in
           let so_far = inv.read honest told in
@@ -249,7 +250,7 @@ returns g c =
             shape = c.args.asked.shape.now;
             subchunk = self.subchunk_shape;
             value = [];
-            pairs = pairs_of c.args.shard.index.now;
+            pairs = all_pairs c.args.shard.pairs.now;
             numbers = numbers_of c.args.asked.shape.now region;
           } in
           given_done s met (g.D.BytesPartialDecoderTraits.given_bytes c.args.source.now) (g.D.BytesPartialDecoderTraits.given_bytes c.loop-j.source) c.loop-j.j (inv.given honest);
@@ -266,7 +267,7 @@ returns-in_err-cut-clause-given g c = λ honest.
       shape = c.args.asked.shape.now;
       subchunk = self.subchunk_shape;
       value = [];
-      pairs = pairs_of c.args.shard.index.now;
+      pairs = all_pairs c.args.shard.pairs.now;
       numbers = numbers_of c.args.asked.shape.now region;
     } in
     given_done s c.as_slice-met.result.now (g.D.BytesPartialDecoderTraits.given_bytes c.args.source.now) (g.D.BytesPartialDecoderTraits.given_bytes c.loop-j.source) c.loop-j.j (c.loop-j.invariant.given honest)
@@ -281,7 +282,7 @@ returns-in_err-into_bytes-clause-given g c = λ honest.
       shape = c.args.asked.shape.now;
       subchunk = self.subchunk_shape;
       value = [];
-      pairs = pairs_of c.args.shard.index.now;
+      pairs = all_pairs c.args.shard.pairs.now;
       numbers = numbers_of c.args.asked.shape.now region;
     } in
     given_done s c.as_slice-met.result.now (g.D.BytesPartialDecoderTraits.given_bytes c.args.source.now) (g.D.BytesPartialDecoderTraits.given_bytes c.loop-j.source) c.loop-j.j (c.loop-j.invariant.given honest)
@@ -310,7 +311,7 @@ returns-in_err-all-in-Ok-clause-given g c = λ honest.
       shape = c.args.asked.shape.now;
       subchunk = self.subchunk_shape;
       value = [];
-      pairs = pairs_of c.args.shard.index.now;
+      pairs = all_pairs c.args.shard.pairs.now;
       numbers = numbers_of c.args.asked.shape.now region;
     } in
     let can = askable s (g.X.ArrayToBytesCodecTraits.meaning self.index_codecs) (location_of self.index_location) c.requires.fit c.requires.many (regions.asked_places s.shape (in_box region) c.requires.inside) in

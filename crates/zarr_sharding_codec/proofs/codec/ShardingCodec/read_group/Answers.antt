@@ -6,7 +6,7 @@ use Rattle.zarr_codecs_meaning.specs.Encoding.{Pair, absent_pair}
 use Rattle.zarr_codecs_meaning.specs.Types.{Cell}
 use Rattle.zarr_sharding_index.specs.Held.{FetchesSlice}
 use Rattle.zarr_sharding_codec.specs.Reading.{Lists, places_decoded, slice_cells}
-use Rattle.zarr_sharding_index.specs.Views.{pairs_of}
+use Rattle.zarr_sharding_index.specs.Present.{all_pairs}
 use Rattle.zarr_sharding_places.specs.declared.locating.AskedPlace.{AskedPlace}
 use Rattle.zarr_sharding_codec.proofs.PartsRead.{absent_places, lists_read, present_places, present_value, slice_unread}
 use Rattle.zarr_sharding_codec.proofs.codec.ShardingCodec.read_group.Goals as goal
@@ -17,7 +17,7 @@ returns-then-is_absent-clause-part g c = λ honest told.
     let shape = c.args.part.shape.now in
     let elements = elements_of c.args.shard.elements.now in
     let group = c.args.part.group.now in
-    let pair = get_or (pairs_of c.args.shard.index.now) c.args.part.number absent_pair in
+    let pair = get_or (all_pairs c.args.shard.pairs.now) c.args.part.number absent_pair in
     let insides = map (λ (place : AskedPlace). place.inside) group in
     let absent : is_absent pair ≡ true = ap is_absent (sym c.get-pair.ensures) ∙ (sym c.is_absent.ensures ∙ c.if-is_absent.true) in
     record {
@@ -33,7 +33,7 @@ returns-in_ok-insides-in-Ok-clause-part g c = λ honest told.
     let inner = g.I.ArrayToBytesCodecTraits.meaning self.inner_codecs in
     let elements = elements_of c.args.shard.elements.now in
     let group = c.args.part.group.now in
-    let pairs = pairs_of c.args.shard.index.now in
+    let pairs = all_pairs c.args.shard.pairs.now in
     let k = c.args.part.number in
     let pair = get_or pairs k absent_pair in
     let insides = map (λ (place : AskedPlace). place.inside) group in
@@ -56,7 +56,7 @@ returns-in-Err-clause-part g c = λ honest told.
     let inner = g.I.ArrayToBytesCodecTraits.meaning self.inner_codecs in
     let elements = elements_of c.args.shard.elements.now in
     let group = c.args.part.group.now in
-    let pairs = pairs_of c.args.shard.index.now in
+    let pairs = all_pairs c.args.shard.pairs.now in
     let k = c.args.part.number in
     let pair = get_or pairs k absent_pair in
     let insides = map (λ (place : AskedPlace). place.inside) group in

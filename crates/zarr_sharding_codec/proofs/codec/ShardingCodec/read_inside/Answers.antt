@@ -8,7 +8,7 @@ use Rattle.zarr_codecs_traits.specs.Indexers.{numbers_of, shape_has}
 use Rattle.zarr_grids_boxes.specs.Boxes.{product}
 use Rattle.zarr_grids_boxes.specs.Subsets.{region_of}
 use Rattle.zarr_sharding_index.specs.Held.{FetchesSlice}
-use Rattle.zarr_sharding_index.specs.Views.{pairs_of}
+use Rattle.zarr_sharding_index.specs.Present.{all_pairs}
 use Rattle.zarr_sharding_codec.specs.Reading.{Lists, places_decoded, slice_cells}
 use Rattle.zarr_sharding_codec.proofs.BoxInSubchunk.{numbers_many}
 use Rattle.zarr_sharding_codec.proofs.PartsRead.{absent_places, lists_read, present_places, present_value, slice_unread}
@@ -34,7 +34,7 @@ returns-then-is_absent-clause-part g c = λ honest told.
     let elements = elements_of c.args.shard.elements.now in
     let found = c.args.found.now in
     let edges = found.shape.items in
-    let pair = get_or (pairs_of c.args.shard.index.now) found.number absent_pair in
+    let pair = get_or (all_pairs c.args.shard.pairs.now) found.number absent_pair in
     let insides = numbers_of edges (region_of found.region) in
     let absent : is_absent pair ≡ true = ap is_absent (sym c.get-pair.ensures) ∙ (sym c.is_absent.ensures ∙ c.if-is_absent.true) in
     let count : length insides ≡ c.in-Some.count = numbers_many edges (region_of found.region) found.region.same ∙ (ap product (sym c.shape.ensures) ∙ sym c.in-Some.ensures.1) in
@@ -51,7 +51,7 @@ returns-in-Ok-clause-part g c = λ honest told.
     let elements = elements_of c.args.shard.elements.now in
     let found = c.args.found.now in
     let edges = found.shape.items in
-    let pairs = pairs_of c.args.shard.index.now in
+    let pairs = all_pairs c.args.shard.pairs.now in
     let k = found.number in
     let pair = get_or pairs k absent_pair in
     let insides = numbers_of edges (region_of found.region) in
@@ -73,7 +73,7 @@ returns-in-Err-clause-part g c = λ honest told.
     let elements = elements_of c.args.shard.elements.now in
     let found = c.args.found.now in
     let edges = found.shape.items in
-    let pairs = pairs_of c.args.shard.index.now in
+    let pairs = all_pairs c.args.shard.pairs.now in
     let k = found.number in
     let pair = get_or pairs k absent_pair in
     let insides = numbers_of edges (region_of found.region) in

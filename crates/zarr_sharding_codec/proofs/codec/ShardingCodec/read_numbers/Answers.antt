@@ -8,7 +8,8 @@ use Rattle.zarr_codecs_meaning.proofs.Parts.{length-parts}
 use Rattle.zarr_codecs_meaning.proofs.Positions.{each_at}
 use Rattle.zarr_codecs_traits.specs.Sources.{refused_after}
 use Rattle.zarr_grids_boxes.specs.Boxes.{product}
-use Rattle.zarr_sharding_index.specs.Views.{location_of, pairs_of}
+use Rattle.zarr_sharding_index.specs.Present.{all_pairs}
+use Rattle.zarr_sharding_index.specs.Views.{location_of}
 use Rattle.zarr_sharding_places.specs.Groups.{no_place}
 use Rattle.zarr_sharding_places.specs.Locating.{asked_places}
 use Rattle.zarr_sharding_places.specs.declared.locating.AskedPlace.{AskedPlace}
@@ -39,7 +40,7 @@ loop-rest-init g c =
             shape = c.args.asked.shape.now;
             subchunk = self.subchunk_shape;
             value = unwrap_or (g.D.BytesPartialDecoderTraits.contents c.args.source.now) [];
-            pairs = pairs_of c.args.shard.index.now;
+            pairs = all_pairs c.args.shard.pairs.now;
             numbers = c.args.asked.numbers.now;
           } in
           none_so_far s c.in_ok-filled.filled c.as_slice-rest.result.now c.in_ok-filled.ensures;
@@ -51,7 +52,7 @@ loop-rest-init g c =
             shape = c.args.asked.shape.now;
             subchunk = self.subchunk_shape;
             value = [];
-            pairs = pairs_of c.args.shard.index.now;
+            pairs = all_pairs c.args.shard.pairs.now;
             numbers = c.args.asked.numbers.now;
           } in
           none_given s (g.D.BytesPartialDecoderTraits.given_bytes c.args.source.now) c.as_slice-rest.result.now;
@@ -78,7 +79,7 @@ part_shape-requires-clause-below g c =
       shape = c.args.asked.shape.now;
       subchunk = self.subchunk_shape;
       value = [];
-      pairs = pairs_of c.args.shard.index.now;
+      pairs = all_pairs c.args.shard.pairs.now;
       numbers = c.args.asked.numbers.now;
     } in
     let can = askable s (g.X.ArrayToBytesCodecTraits.meaning self.index_codecs) (location_of self.index_location) c.requires.fit c.requires.many c.requires.below in
@@ -99,7 +100,7 @@ read_group-requires-clause-fit g c =
       shape = c.args.asked.shape.now;
       subchunk = self.subchunk_shape;
       value = [];
-      pairs = pairs_of c.args.shard.index.now;
+      pairs = all_pairs c.args.shard.pairs.now;
       numbers = c.args.asked.numbers.now;
     } in
     let can = askable s (g.X.ArrayToBytesCodecTraits.meaning self.index_codecs) (location_of self.index_location) c.requires.fit c.requires.many c.requires.below in
@@ -120,7 +121,7 @@ read_group-requires-clause-pair g c =
       shape = c.args.asked.shape.now;
       subchunk = self.subchunk_shape;
       value = [];
-      pairs = pairs_of c.args.shard.index.now;
+      pairs = all_pairs c.args.shard.pairs.now;
       numbers = c.args.asked.numbers.now;
     } in
     let can = askable s (g.X.ArrayToBytesCodecTraits.meaning self.index_codecs) (location_of self.index_location) c.requires.fit c.requires.many c.requires.below in
@@ -138,7 +139,7 @@ read_group-requires-clause-inside g c =
       shape = c.args.asked.shape.now;
       subchunk = self.subchunk_shape;
       value = [];
-      pairs = pairs_of c.args.shard.index.now;
+      pairs = all_pairs c.args.shard.pairs.now;
       numbers = c.args.asked.numbers.now;
     } in
     let can = askable s (g.X.ArrayToBytesCodecTraits.meaning self.index_codecs) (location_of self.index_location) c.requires.fit c.requires.many c.requires.below in
@@ -167,7 +168,7 @@ loop-rest-preserved g c =
             shape = c.args.asked.shape.now;
             subchunk = self.subchunk_shape;
             value = unwrap_or (g.D.BytesPartialDecoderTraits.contents c.args.source.now) [];
-            pairs = pairs_of c.args.shard.index.now;
+            pairs = all_pairs c.args.shard.pairs.now;
             numbers = c.args.asked.numbers.now;
           } in
           let can = askable s (g.X.ArrayToBytesCodecTraits.meaning self.index_codecs) (location_of self.index_location) c.requires.fit c.requires.many c.requires.below in
@@ -186,7 +187,7 @@ loop-rest-preserved g c =
             shape = c.args.asked.shape.now;
             subchunk = self.subchunk_shape;
             value = [];
-            pairs = pairs_of c.args.shard.index.now;
+            pairs = all_pairs c.args.shard.pairs.now;
             numbers = c.args.asked.numbers.now;
           } in
           let can = askable s (g.X.ArrayToBytesCodecTraits.meaning self.index_codecs) (location_of self.index_location) c.requires.fit c.requires.many c.requires.below in
@@ -213,7 +214,7 @@ returns-in-Err g c =
             shape = c.args.asked.shape.now;
             subchunk = self.subchunk_shape;
             value = unwrap_or (g.D.BytesPartialDecoderTraits.contents c.args.source.now) [];
-            pairs = pairs_of c.args.shard.index.now;
+            pairs = all_pairs c.args.shard.pairs.now;
             numbers = c.args.asked.numbers.now;
           } in
           let can = askable s (g.X.ArrayToBytesCodecTraits.meaning self.index_codecs) (location_of self.index_location) c.requires.fit c.requires.many c.requires.below in
@@ -233,7 +234,7 @@ returns-in-Err g c =
             shape = c.args.asked.shape.now;
             subchunk = self.subchunk_shape;
             value = [];
-            pairs = pairs_of c.args.shard.index.now;
+            pairs = all_pairs c.args.shard.pairs.now;
             numbers = c.args.asked.numbers.now;
           } in
           let can = askable s (g.X.ArrayToBytesCodecTraits.meaning self.index_codecs) (location_of self.index_location) c.requires.fit c.requires.many c.requires.below in
@@ -261,7 +262,7 @@ returns g c =
             shape = c.args.asked.shape.now;
             subchunk = self.subchunk_shape;
             value = unwrap_or (g.D.BytesPartialDecoderTraits.contents c.args.source.now) [];
-            pairs = pairs_of c.args.shard.index.now;
+            pairs = all_pairs c.args.shard.pairs.now;
             numbers = c.args.asked.numbers.now;
           } in
           let moved = subst (λ (ps : List AskedPlace). IsPermutation (asked_places s.shape s.subchunk s.numbers) ps) (sym c.as_slice-rest.ensures.value) c.in_ok-places.ensures.all in
@@ -279,7 +280,7 @@ returns g c =
             shape = c.args.asked.shape.now;
             subchunk = self.subchunk_shape;
             value = [];
-            pairs = pairs_of c.args.shard.index.now;
+            pairs = all_pairs c.args.shard.pairs.now;
             numbers = c.args.asked.numbers.now;
           } in
           given_all s (g.D.BytesPartialDecoderTraits.given_bytes c.args.source.now) (g.D.BytesPartialDecoderTraits.given_bytes c.loop-rest.source) c.loop-rest.rest.now (inv.given honest);
@@ -302,7 +303,7 @@ returns-in_err-all-in-Ok-clause-given g c = λ honest.
       shape = c.args.asked.shape.now;
       subchunk = self.subchunk_shape;
       value = [];
-      pairs = pairs_of c.args.shard.index.now;
+      pairs = all_pairs c.args.shard.pairs.now;
       numbers = c.args.asked.numbers.now;
     } in
     let can = askable s (g.X.ArrayToBytesCodecTraits.meaning self.index_codecs) (location_of self.index_location) c.requires.fit c.requires.many c.requires.below in
@@ -323,7 +324,7 @@ returns-in_err-gather-clause-given g c = λ honest.
       shape = c.args.asked.shape.now;
       subchunk = self.subchunk_shape;
       value = [];
-      pairs = pairs_of c.args.shard.index.now;
+      pairs = all_pairs c.args.shard.pairs.now;
       numbers = c.args.asked.numbers.now;
     } in
     given_all s (g.D.BytesPartialDecoderTraits.given_bytes c.args.source.now) (g.D.BytesPartialDecoderTraits.given_bytes c.loop-rest.source) c.loop-rest.rest.now (c.loop-rest.invariant.given honest)
@@ -337,7 +338,7 @@ returns-in_err-edges-clause-given g c = λ honest.
       shape = c.args.asked.shape.now;
       subchunk = self.subchunk_shape;
       value = [];
-      pairs = pairs_of c.args.shard.index.now;
+      pairs = all_pairs c.args.shard.pairs.now;
       numbers = c.args.asked.numbers.now;
     } in
     given_all s (g.D.BytesPartialDecoderTraits.given_bytes c.args.source.now) (g.D.BytesPartialDecoderTraits.given_bytes c.loop-rest.source) c.loop-rest.rest.now (c.loop-rest.invariant.given honest)

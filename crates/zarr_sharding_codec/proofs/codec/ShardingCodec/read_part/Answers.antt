@@ -4,9 +4,11 @@ use Rattle.zarr_codecs_meaning.specs.Chains.{sharded}
 use Rattle.zarr_codecs_meaning.specs.Places.{grid_of, index_shape}
 use Rattle.zarr_codecs_meaning.proofs.Parts.{length-parts}
 use Rattle.zarr_codecs_traits.specs.Indexers.{asked_of, numbers_asked}
+use Rattle.zarr_codecs_traits.specs.Arrays.{coded}
 use Rattle.zarr_codecs_traits.specs.Outcomes.{DecodesPart}
 use Rattle.zarr_grids_boxes.specs.Boxes.{product}
-use Rattle.zarr_sharding_index.specs.Views.{location_of, pairs_of}
+use Rattle.zarr_sharding_index.specs.Present.{all_pairs}
+use Rattle.zarr_sharding_index.specs.Views.{location_of}
 use Rattle.zarr_sharding_codec.specs.Reading.{HasPairs}
 use Rattle.zarr_sharding_codec.proofs.EncodedShard.{index_part}
 use Rattle.zarr_sharding_codec.proofs.PartsRead.{fetched_nothing, fetched_value, part_filled, part_found, value_read, value_total}
@@ -46,10 +48,10 @@ returns-in-Ok-Some-clause-part g c = λ honest.
     let same = laws.same _ _ first.follows in
     let still = subst IsTrue (laws.honest _ _ first.follows) honest in
     let is = sym same ∙ opened.is in
-    let pairs = pairs_of c.in-Ok-Some.fetched.index in
+    let pairs = all_pairs c.in-Ok-Some.fetched.pairs in
     let found = value_read inner elements shape self.subchunk_shape (g.D.BytesPartialDecoderTraits.contents c.open_index.new.source) opened.value pairs numbers c.read_asked.result is
     (c.read_asked.ensures.part still (value_total (g.D.BytesPartialDecoderTraits.contents c.open_index.new.source) pairs c.in-Ok-Some.fetched.total opened.value is opened.total)) in
-    subst (λ (stored : Option (List ℕ)). DecodesPart (sharded self.subchunk_shape inner index location) elements shape stored asked c.read_asked.result) (sym opened.is)
+    subst (λ (stored : Option (List ℕ)). DecodesPart (coded (sharded self.subchunk_shape inner index location) elements shape) stored asked c.read_asked.result) (sym opened.is)
     (part_found self.subchunk_shape inner index location elements shape opened.value pairs numbers asked c.read_asked.result c.requires.fit c.requires.inside refl opened.held found)
 
 pub returns-in_ok-fill_elements-in-Ok-None-clause-part : goal.returns-in_ok-fill_elements-in-Ok-None-clause-part

@@ -2,6 +2,7 @@ use Rattle.std.proofs.Common.{ap, subst, refl, arith, length, Option, Some, List
 use Rattle.std.proofs.lemmas.List.FromFn.{length-range_with_len}
 use Rattle.zarr_codecs_arrays.specs.Views.{elements_of}
 use Rattle.zarr_codecs_traits.specs.Indexers.{asked_of, numbers_asked}
+use Rattle.zarr_codecs_traits.specs.Arrays.{coded}
 use Rattle.zarr_codecs_traits.specs.Outcomes.{DecodesPart}
 use Rattle.zarr_grids_boxes.specs.Boxes.{product}
 use Rattle.zarr_sharding_codec.specs.Reading.{slice_cells}
@@ -21,7 +22,7 @@ returns g c =
     let elements = elements_of c.args.elements.now in
     let shape = c.args.shape.now in
     let asked = asked_of c.args.indexer in
-    let r = c.partial_decode.result in
-    let part = subst (λ (stored : Option (List ℕ)). DecodesPart inner elements shape stored asked r) c.new-source.ensures.contents (c.partial_decode.ensures.part refl) in
-    let lists = slice_read inner elements shape c.args.slice.items asked r c.requires.fit c.requires.some c.requires.inside c.partial_decode.ensures.refused part in
+    let r = c.partial_decode_in_order.result in
+    let part = subst (λ (stored : Option (List ℕ)). DecodesPart (coded inner elements shape) stored asked r) c.new-source.ensures.contents (c.partial_decode_in_order.ensures.part refl) in
+    let lists = slice_read inner elements shape c.args.slice.items asked r c.requires.fit c.requires.some c.requires.inside c.partial_decode_in_order.ensures.refused part in
     record { part = lists; no_source = λ count. lists_unrefused elements shape (slice_cells inner elements shape c.args.slice.items (numbers_asked shape asked)) r count lists }

@@ -7,7 +7,7 @@ use Rattle.zarr_codecs_meaning.specs.Places.{place_numbers}
 use Rattle.zarr_codecs_meaning.specs.Types.{Cell}
 use Rattle.zarr_grids_boxes.specs.Boxes.{product}
 use Rattle.zarr_sharding_index.specs.Held.{FetchesSlice}
-use Rattle.zarr_sharding_index.specs.Views.{pairs_of}
+use Rattle.zarr_sharding_index.specs.Present.{all_pairs}
 use Rattle.zarr_sharding_codec.specs.Reading.{Lists, places_decoded}
 use Rattle.zarr_sharding_codec.proofs.PartsRead.{absent_places, lists_read, present_places, present_value, slice_unread}
 use Rattle.zarr_sharding_codec.proofs.codec.ShardingCodec.read_whole.Goals as goal
@@ -17,7 +17,7 @@ returns-then-is_absent-clause-part g c = λ honest told.
     let self = c.args.self.now in
     let shape = c.args.found.shape.now in
     let elements = elements_of c.args.shard.elements.now in
-    let pair = get_or (pairs_of c.args.shard.index.now) c.args.found.number absent_pair in
+    let pair = get_or (all_pairs c.args.shard.pairs.now) c.args.found.number absent_pair in
     let insides = place_numbers shape in
     let absent : is_absent pair ≡ true = ap is_absent (sym c.get-pair.ensures) ∙ (sym c.is_absent.ensures ∙ c.if-is_absent.true) in
     let count : length insides ≡ c.in-Some.count = length-range_with_len 0 (product shape) ∙ sym c.in-Some.ensures.1 in
@@ -33,7 +33,7 @@ returns-in-Ok-clause-part g c = λ honest told.
     let shape = c.args.found.shape.now in
     let inner = g.I.ArrayToBytesCodecTraits.meaning self.inner_codecs in
     let elements = elements_of c.args.shard.elements.now in
-    let pairs = pairs_of c.args.shard.index.now in
+    let pairs = all_pairs c.args.shard.pairs.now in
     let k = c.args.found.number in
     let pair = get_or pairs k absent_pair in
     let insides = place_numbers shape in
@@ -53,7 +53,7 @@ returns-in-Err-clause-part g c = λ honest told.
     let shape = c.args.found.shape.now in
     let inner = g.I.ArrayToBytesCodecTraits.meaning self.inner_codecs in
     let elements = elements_of c.args.shard.elements.now in
-    let pairs = pairs_of c.args.shard.index.now in
+    let pairs = all_pairs c.args.shard.pairs.now in
     let k = c.args.found.number in
     let pair = get_or pairs k absent_pair in
     let insides = place_numbers shape in

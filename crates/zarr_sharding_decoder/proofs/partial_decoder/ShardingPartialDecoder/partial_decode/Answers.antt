@@ -4,10 +4,12 @@ use Rattle.zarr_codecs_meaning.specs.Chains.{sharded}
 use Rattle.zarr_codecs_meaning.specs.Places.{grid_of, index_shape, parts_of}
 use Rattle.zarr_codecs_meaning.proofs.Parts.{index_product, length-parts}
 use Rattle.zarr_codecs_traits.specs.Indexers.{asked_of, numbers_asked}
+use Rattle.zarr_codecs_traits.specs.Arrays.{coded}
 use Rattle.zarr_codecs_traits.specs.Outcomes.{DecodesPart}
 use Rattle.zarr_grids_boxes.specs.Boxes.{product}
 use Rattle.zarr_sharding_index.specs.Held.{IsIndexHeld}
-use Rattle.zarr_sharding_index.specs.Views.{location_of, pairs_of}
+use Rattle.zarr_sharding_index.specs.Present.{all_pairs}
+use Rattle.zarr_sharding_index.specs.Views.{location_of}
 use Rattle.zarr_sharding_codec.proofs.PartsRead.{part_filled, part_found, value_read, value_total}
 use Rattle.zarr_sharding_decoder.proofs.Opened.{held_count, held_nothing, held_value}
 use Rattle.zarr_sharding_decoder.proofs.partial_decoder.ShardingPartialDecoder.partial_decode.Goals as goal
@@ -46,11 +48,11 @@ returns-clause-part g c = λ honest.
     let shape = self.shape.now in
     let asked = asked_of c.args.indexer in
     let contents = g.D.BytesPartialDecoderTraits.contents self.source.now in
-    let pairs = pairs_of c.in-Some.fetched.index in
+    let pairs = all_pairs c.in-Some.fetched.pairs in
     let count : length pairs ≡ length (parts_of shape subchunk) = held_count (product (grid_of shape subchunk)) self.held c.in-Some.fetched c.in-Some.is self.many ∙ sym (length-parts shape subchunk) in
     let found = held_value index location (index_shape shape subchunk) contents self.held c.in-Some.fetched c.in-Some.is (self.told honest) (self.opened honest) in
     let held : IsIndexHeld index location (index_shape shape subchunk) found.value pairs = record { is = found.pairs; many = index_product shape subchunk ∙ ap (λ n. 2 * n) (sym count) } in
     let numbers = numbers_asked shape asked in
     let read = value_read inner elements shape subchunk contents found.value pairs numbers c.read_asked.result found.is (c.read_asked.ensures.part honest (value_total contents pairs c.in-Some.fetched.total found.value found.is found.total)) in
-    subst (λ (stored : Option (List ℕ)). DecodesPart (sharded subchunk inner index location) elements shape stored asked c.read_asked.result) (sym found.is)
+    subst (λ (stored : Option (List ℕ)). DecodesPart (coded (sharded subchunk inner index location) elements shape) stored asked c.read_asked.result) (sym found.is)
     (part_found subchunk inner index location elements shape found.value pairs numbers asked c.read_asked.result self.fit c.in_default.ensures refl held read)

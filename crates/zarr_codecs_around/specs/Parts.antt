@@ -1,0 +1,38 @@
+-- Parts of an array that are read and written by a codec after array codecs.
+use Rattle.std.specs.Prelude.{◌≡◌, ℕ, List, Option}
+use Rattle.zarr_grids_boxes.specs.Subsets.{region_of}
+use Rattle.zarr_codecs_meaning.specs.Chains.{Chain}
+use Rattle.zarr_codecs_meaning.specs.Partial.{encodes_in_part}
+use Rattle.zarr_codecs_arrays.specs.Views.{elements_of, payload_of}
+use Rattle.zarr_codecs_arrays.specs.declared.array_bytes.ArrayBytes.{ArrayBytes}
+use Rattle.zarr_codecs_traits.specs.Arrays.{Coded, Update, coded, coded_part, update_of}
+use Rattle.zarr_codecs_traits.specs.Indexers.{in_box, listed}
+use Rattle.zarr_codecs_traits.specs.declared.array_part.ArrayPart.{ArrayPart}
+use Rattle.zarr_codecs_bytes.specs.declared.part.ListedPart.{ListedPart}
+use Rattle.zarr_codecs_around.specs.Views.{chain_after}
+use Rattle.zarr_codecs_around.specs.declared.array_codecs.AfterArrayCodecs.{AfterArrayCodecs}
+use Rattle.zarr_codecs_around.specs.declared.boxes.BoxPart.{BoxPart}
+
+-- the array of a part, by array codecs and the codec after them
+abbrev pub part_in : {A : Type 0} → (A → Chain) → AfterArrayCodecs A → ArrayPart → Coded
+part_in meaning codecs part = coded_part (chain_after meaning codecs) part
+
+-- the same, where the part is a box
+abbrev pub boxed_in : {A : Type 0} → (A → Chain) → AfterArrayCodecs A → BoxPart → Coded
+boxed_in meaning codecs part = coded (chain_after meaning codecs) (elements_of part.elements.now) part.shape.now
+
+-- elements that are given for the places of a box, before they are put into what is stored
+abbrev pub update_boxed : BoxPart → ArrayBytes → Option (List ℕ) → Update
+update_boxed part bytes stored = update_of (in_box (region_of part.subset.now)) (payload_of bytes) stored
+
+-- the array of elements that are asked for by their numbers
+abbrev pub coded_listed : Chain → ListedPart → Coded
+coded_listed chain part = coded chain (elements_of part.elements.now) part.shape.now
+
+-- elements that are given for places by their numbers, before they are put into what is stored
+abbrev pub update_listed : ListedPart → ArrayBytes → Option (List ℕ) → Update
+update_listed part bytes stored = update_of (listed part.numbers.now) (payload_of bytes) stored
+
+-- the array codecs don't keep the codec after them from being encoded in part: no `reshape` stands before a shard
+abbrev pub IsAsRest : {A : Type 0} → (A → Chain) → AfterArrayCodecs A → Type 0
+IsAsRest meaning codecs = encodes_in_part (chain_after meaning codecs) ≡ encodes_in_part (meaning codecs.rest.now)
