@@ -6,6 +6,10 @@ pub mod Selected
 pub mod Placed
 pub mod ReadSoFar
 pub mod ReadCounts
+mod WholeLost
+pub mod FetchedValues
+pub mod FoundParts
+pub mod Fetched
 pub mod ChunkPayloads
 pub mod ChunkCells
 pub mod PartBoxes

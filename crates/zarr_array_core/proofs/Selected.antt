@@ -34,7 +34,7 @@ first_lost f n ns None rest e later h = (0, omega arith, e)
 first_lost f n ns (Some x) None e later h = let found = later refl in let b = found.1 in (suc found.0, omega arith, found.2)
 first_lost f n ns (Some x) (Some xs) e later h = cc
 
-lost_at : {X : Type 0} (f : ℕ → Option X) (ns : List ℕ) → all_there (map f ns) ≡ None → (i : ℕ) × (i < length ns) × (f (get_or ns i 0) ≡ None)
+pub lost_at : {X : Type 0} (f : ℕ → Option X) (ns : List ℕ) → all_there (map f ns) ≡ None → (i : ℕ) × (i < length ns) × (f (get_or ns i 0) ≡ None)
 lost_at f [] h = cc
 lost_at f (n ∷ ns) h = first_lost f n ns (f n) (all_there (map f ns)) refl (λ none. lost_at f ns none) h
 

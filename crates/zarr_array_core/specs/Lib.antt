@@ -1,6 +1,7 @@
 pub mod Views
 pub mod Outcomes
 pub mod Parts
+pub mod Fetching
 pub mod BoxWrites
 pub mod ChunkValues
 pub mod Calls

@@ -1,5 +1,5 @@
 //! One chunk read.
-ghost use Rattle.std.specs.Prelude.{◌≡◌, List, true, false};
+ghost use Rattle.std.specs.Prelude.{◌≡◌, ℕ, List, true, false};
 ghost use Rattle.zarr_codecs_meaning.specs.Types.{Cell};
 ghost use Rattle.zarr_codecs_arrays.specs.Outcomes.{IsCounted};
 ghost use Rattle.zarr_codecs_arrays.specs.Views.{payload_of, elements_of};
@@ -52,8 +52,10 @@ impl<C: ArrayToBytesCodecTraits> ArrayCore<C> {
     ghost use Rattle.zarr_array_elements.specs.Views.{AreShown, cells_shown};
     ghost use Rattle.zarr_array_core.specs.Arrays.{array_of};
     ghost use Rattle.zarr_array_core.specs.Calls.{Reads};
+    ghost use Rattle.zarr_array_core.specs.Fetching.{AreOfChunk, PutsFound};
     ghost use Rattle.zarr_array_core.specs.Views.{document_of};
     ghost use Rattle.zarr_array_core.specs.Outcomes.{IsSmall, refused_after};
+    ghost use Rattle.zarr_array_core.specs.declared.error.ChunkError.TheVariants.{Memory};
     ghost use Rattle.zarr_array_core.specs.Parts.{AreShared, DecodesElements, FindsAt, FindsPart, GivesChunk, PartNotRead, ValueStops, met_in};
 
     /// The elements of a box after those of a chunk that lie in it were put over them, where
@@ -88,21 +90,44 @@ impl<C: ArrayToBytesCodecTraits> ArrayCore<C> {
         ensures store { Reads S.ReadableStorageTraits store.old store.new
             (refused_after (S.refused_calls store.old) result) }
     {
-        match self.chunk_part(rooms, store, chunk, read) {
-            Ok(Some(part)) => {
-                let (bytes, shared) = (&part.bytes, &part.shared);
-                let made = shown.put(read.alloc, read.region, bytes, shared, &self.elements)?;
-                rooms.keep_shared(part.shared);
-                Ok(made)
-            }
-            Ok(None) => Ok(shown),
-            Err(error) => Err(error),
-        }
+        let found = self.chunk_part(rooms, store, chunk, read)?;
+        self.put_chunk_part(rooms, read, shown, found)
+    }
+
+    /// The elements of a box after what was found of a chunk was put over them. They stay where
+    /// nothing was found.
+    pub(crate) fn put_chunk_part(
+        &self,
+        rooms: &mut ChunkRooms,
+        read: ReadBox,
+        shown: BoxElements,
+        found: Option<ChunkPart>,
+    ) -> Result<BoxElements, ChunkError>
+        requires met { (chunk : List ℕ) × (intersects (document_of C.meaning self.now).grid
+            (region_of read.region.now) chunk ≡ true) × AreOfChunk (document_of C.meaning self.now)
+            (region_of read.region.now) chunk found }
+        requires shown { AreShown (document_of C.meaning self.now).elements
+            (region_of read.region.now) shown }
+        ensures shown { IfOk result (AreShown (document_of C.meaning self.now).elements
+            (region_of read.entry.region.now)) }
+        ensures ok { IfOk result (λ made. PutsFound (array_of C.ArrayToBytesCodecTraits self.now)
+            (region_of read.entry.region.now) found
+            (cells_shown (document_of C.meaning self.now).elements shown)
+            (cells_shown (document_of C.meaning self.now).elements made)) }
+        ensures err { IfErr result (λ e. e ≡ Memory) }
+    {
+        let Some(part) = found else {
+            return Ok(shown);
+        };
+        let (bytes, shared) = (&part.bytes, &part.shared);
+        let made = shown.put(read.alloc, read.region, bytes, shared, &self.elements)?;
+        rooms.keep_shared(part.shared);
+        Ok(made)
     }
 
     /// The elements of a chunk that lie in a box. `None` where nothing is stored for the chunk and
     /// it does not fit its codecs.
-    fn chunk_part<S: ReadableStorageTraits>(
+    pub(crate) fn chunk_part<S: ReadableStorageTraits>(
         &self,
         rooms: &mut ChunkRooms,
         store: &mut S,
@@ -114,10 +139,8 @@ impl<C: ArrayToBytesCodecTraits> ArrayCore<C> {
         requires shares { intersects (document_of C.meaning self.now).grid
             (region_of read.region.now) chunk.now ≡ true }
         requires small { IsSmall (document_of C.meaning self.now) (region_of read.region.now) }
-        ensures shared { IfOk result (λ found. IfSome found (λ part. (box : Region)
-            × IsInGrid (document_of C.meaning self.now).grid chunk.now box
-            × AreShared (document_of C.meaning self.now).elements.type
-            (region_of read.entry.region.now) box part)) }
+        ensures shared { IfOk result (AreOfChunk (document_of C.meaning self.now)
+            (region_of read.entry.region.now) chunk.now) }
         ensures found { IsTrue (S.is_honest store.old) → IfOk result (FindsAt
             (array_of C.ArrayToBytesCodecTraits self.now) (S.held store.old) chunk.now) }
         ensures err { IsTrue (S.is_honest store.old) → IfErr result (PartNotRead

@@ -2,7 +2,7 @@
 ghost use Rattle.std.specs.Prelude.{◌≡◌};
 ghost use Rattle.zarr_array_core.specs.declared.error.ChunkError.TheVariants.{Memory};
 
-use std::alloc::AllocError;
+use std::alloc::{AllocError, AllocFailed};
 use thiserror::Error;
 use zarr_array_storage::StorageError;
 
@@ -35,6 +35,14 @@ impl From<AllocError> for ChunkError {
     ghost from_gives = { λ _ e. e ≡ Memory };
 
     fn from(_: AllocError) -> ChunkError {
+        ChunkError::Memory
+    }
+}
+
+impl<T: Drop> From<AllocFailed<T>> for ChunkError {
+    ghost from_gives = { λ _ e. e ≡ Memory };
+
+    fn from(_: AllocFailed<T>) -> ChunkError {
         ChunkError::Memory
     }
 }

@@ -10,6 +10,7 @@ mod chunk_writing;
 pub mod compacting;
 pub mod erasing;
 pub mod error;
+mod fetching;
 mod holding;
 mod into_shard;
 pub mod limits;

@@ -1,9 +1,11 @@
 //! Boxes read chunk by chunk.
 use crate::array_core::ArrayCore;
 use crate::error::ChunkError;
+use crate::fetching::FetchedChunks;
 use crate::region_chunks::RegionChunks;
 use crate::rooms::ChunkRooms;
 use std::alloc::Global;
+use std::marker::Sync;
 use std::thread::Threads;
 use zarr_array_elements::BoxElements;
 use zarr_array_storage::ReadableStorageTraits;
@@ -23,20 +25,31 @@ pub(crate) struct ReadBox<'a> {
     pub options: &'a CodecOptions,
 }
 
+/// Whether these are several chunks.
+fn are_several(chunks: &ArraySubset) -> bool {
+    match count_places(chunks.shape()) {
+        Some(count) => count > 1,
+        None => true,
+    }
+}
+
 impl<C: ArrayToBytesCodecTraits + Sync> ArrayCore<C> {
-    ghost use Rattle.std.specs.Prelude.{◌≡◌, ◌<◌, IsTrue, IfOk, IfErr};
+    ghost use Rattle.std.specs.Prelude.{◌≡◌, ◌<◌, IsTrue, IfOk, IfErr, replicate};
     ghost use Rattle.zarr_grids_boxes.specs.Boxes.{product};
     ghost use Rattle.zarr_grids_boxes.specs.Subsets.{region_of};
     ghost use Rattle.zarr_grids_chunks.specs.Grids.{IsCovered};
     ghost use Rattle.zarr_grids_cover.specs.Intersecting.{AreIntersecting};
     ghost use Rattle.zarr_codecs_arrays.specs.Views.{payload_of};
+    ghost use Rattle.zarr_array_meaning.specs.Boxes.{IsRead};
+    ghost use Rattle.zarr_array_elements.specs.Views.{AreShown, cells_shown};
     ghost use Rattle.zarr_array_core.specs.Views.{document_of, path_of};
+    ghost use Rattle.zarr_array_core.specs.Fetching.{OnlyRead};
     ghost use Rattle.zarr_array_core.specs.Outcomes.{CountsRead, GivesBox, ReadStops, IsSmall};
 
-    /// The elements of a region that is not empty, row-major. Its chunks are read row-major, and
-    /// the first that isn't read decides: `Fit` where it has a value and does not fit its codecs,
-    /// `Damage` where one of its places in the region cannot be decoded. `Storage` where the store
-    /// refuses.
+    /// The elements of a region that is not empty, row-major. The first chunk, row-major, that is
+    /// not read decides: `Fit` where it has a value and does not fit its codecs, `Damage` where a
+    /// place of it in the region cannot be decoded, `Storage` where the store refuses. Workers
+    /// decode the chunks that lie in the region, once all are fetched.
     pub fn read_region<R: Threads + Sync, S: ReadableStorageTraits>(
         &self,
         rt: &R,
@@ -72,12 +85,62 @@ impl<C: ArrayToBytesCodecTraits + Sync> ArrayCore<C> {
             chunks,
             options,
         };
-        match self.read_chunks(rooms, store, read, shown) {
+        match self.read_met(rt, rooms, store, read, shown) {
             Ok(shown) => match shown.into_bytes(alloc, region, &self.elements) {
                 Ok(bytes) => Ok(bytes),
                 Err(_) => Err(ChunkError::Memory),
             },
             Err(error) => Err(error),
+        }
+    }
+
+    /// The elements of a box, which begin as fill values, after those of each chunk that the box
+    /// intersects were put over them. Where the options ask for workers, and there are several
+    /// chunks, these are fetched first, up to one that is not read, and decoded by several threads.
+    fn read_met<R: Threads + Sync, S: ReadableStorageTraits>(
+        &self,
+        rt: &R,
+        rooms: &mut ChunkRooms,
+        store: &mut S,
+        read: ReadBox,
+        shown: BoxElements,
+    ) -> Result<BoxElements, ChunkError>
+        requires small { IsSmall (document_of C.meaning self.now) (region_of read.region.now) }
+        requires intersecting { AreIntersecting (document_of C.meaning self.now).grid
+            (region_of read.region.now) (region_of read.chunks.now) }
+        requires shown { AreShown (document_of C.meaning self.now).elements
+            (region_of read.region.now) shown }
+        requires fill { cells_shown (document_of C.meaning self.now).elements shown
+            ≡ replicate (product read.region.now.shape.items)
+            (document_of C.meaning self.now).elements.fill }
+        ensures shown { IfOk result (AreShown (document_of C.meaning self.now).elements
+            (region_of read.entry.region.now)) }
+        ensures ok { IsTrue (S.is_honest store.old) → IfOk result (λ made. IsRead
+            (path_of self.now) (document_of C.meaning self.now) (S.held store.old)
+            (region_of read.entry.region.now)
+            (cells_shown (document_of C.meaning self.now).elements made)) }
+        ensures err { IsTrue (S.is_honest store.old) → IfErr result
+            (ReadStops (path_of self.now) (document_of C.meaning self.now) (S.held store.old)
+            (region_of read.entry.region.now)) }
+        ensures store { OnlyRead S.ReadableStorageTraits store.old store.new result }
+    {
+        if !read.options.workers() || !are_several(read.chunks) {
+            return self.read_chunks(rooms, store, read, shown);
+        }
+        let FetchedChunks {
+            chunks,
+            bytes,
+            stopped,
+        } = self.fetch_chunks(rooms, store, read)?;
+        let decoded = self.decode_chunks(rt, read.alloc, chunks, bytes)?;
+        let mut target = shown;
+        for found in decoded {
+            let part = found?;
+            target = self.put_chunk_part(rooms, read, target, part)?;
+        }
+        match stopped {
+            Some(error) => Err(error),
+            None => Ok(target),
         }
     }
 }

@@ -14,7 +14,9 @@ pub use zarr_codecs_types::DataType;
 pub use zarr_grids_boxes::ArraySubset;
 pub use zarr_grids_keys::StoreKey;
 pub use zarr_grids_metadata::{MetadataV3, PluginCreateError};
-pub use zarr_run_commands::{Command, CommandCells, Reply, push_answer, read_command};
+pub use zarr_run_commands::{
+    Command, CommandCells, CommandReader, Reply, push_answer, read_command,
+};
 pub use zarr_run_lines::{LinesFault, run_lines};
 pub use zarr_run_meaning::Cause;
 pub use zarr_run_session::{GiveBack, Session, run, run_on};

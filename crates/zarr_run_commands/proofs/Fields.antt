@@ -53,78 +53,78 @@ sizes_of-numbers : (ns : List ℕ) → sizes_of (number_items ns) ≡ Some ns
 sizes_of-numbers [] = refl
 sizes_of-numbers (n ∷ ns) = ap (option_map (λ ms. n ∷ ms)) (sizes_of-numbers ns)
 
-pub is_empty_line : IsLine no_members (record { operation = None; path = None; region = None; chunk = None; cells = None; options = None })
-is_empty_line = (refl, refl, refl, refl, refl, refl, λ names op path box chunk cells options. refl)
+pub is_empty_line : (workers : Bool) → IsLine workers no_members (record { operation = None; path = None; region = None; chunk = None; cells = None; options = None })
+is_empty_line workers = (refl, refl, refl, refl, refl, refl, λ names op path box chunk cells options. refl)
 
-module _ (d : Data) (ms : Members) (line : Line) (is : IsLine ms line) where
+module _ (workers : Bool) (d : Data) (ms : Members) (line : Line) (is : IsLine workers ms line) where
   pub with_operation : (o : Operation) → option_and_then operation_named (as_str d) ≡ Some o
-      → IsLine (put (codes "op") d ms) (record { operation = Some o; path = line.path; region = line.region; chunk = line.chunk; cells = line.cells; options = line.options })
+      → IsLine workers (put (codes "op") d ms) (record { operation = Some o; path = line.path; region = line.region; chunk = line.chunk; cells = line.cells; options = line.options })
   with_operation o said = (
     ap (option_and_then (λ d. option_and_then operation_named (as_str d))) (get_member-put (codes "op") d ms) ∙ said,
     ap (option_and_then as_str) (kept (codes "path") (codes "op") d ms refl) ∙ is.1,
     ap (option_and_then region_in) (kept (codes "box") (codes "op") d ms refl) ∙ is.2,
     ap (option_and_then sizes_in) (kept (codes "chunk") (codes "op") d ms refl) ∙ is.3,
     kept (codes "cells") (codes "op") d ms refl ∙ is.4,
-    ap (said_or options_in no_options) (kept (codes "options") (codes "op") d ms refl) ∙ is.5,
+    ap (said_or (options_in workers) (no_options workers)) (kept (codes "options") (codes "op") d ms refl) ∙ is.5,
     λ names op path box chunk cells options. has_only-put names (codes "op") d ms op (is.6 names (named names (codes "op") line.operation op) path box chunk cells options),
   )
 
   pub with_path : (p : List ℕ) (text : String Global) → string_bytes text ≡ p → as_str d ≡ Some p
-      → IsLine (put (codes "path") d ms) (record { operation = line.operation; path = Some text; region = line.region; chunk = line.chunk; cells = line.cells; options = line.options })
+      → IsLine workers (put (codes "path") d ms) (record { operation = line.operation; path = Some text; region = line.region; chunk = line.chunk; cells = line.cells; options = line.options })
   with_path p text copied said = (
     ap (option_and_then (λ d. option_and_then operation_named (as_str d))) (kept (codes "op") (codes "path") d ms refl) ∙ is.0,
     ap (option_and_then as_str) (get_member-put (codes "path") d ms) ∙ said ∙ ap Some (sym copied),
     ap (option_and_then region_in) (kept (codes "box") (codes "path") d ms refl) ∙ is.2,
     ap (option_and_then sizes_in) (kept (codes "chunk") (codes "path") d ms refl) ∙ is.3,
     kept (codes "cells") (codes "path") d ms refl ∙ is.4,
-    ap (said_or options_in no_options) (kept (codes "options") (codes "path") d ms refl) ∙ is.5,
+    ap (said_or (options_in workers) (no_options workers)) (kept (codes "options") (codes "path") d ms refl) ∙ is.5,
     λ names op path box chunk cells options. has_only-put names (codes "path") d ms path (is.6 names op (named names (codes "path") line.path path) box chunk cells options),
   )
 
   pub with_region : (r : ArraySubset) → region_in d ≡ Some (region_of r)
-      → IsLine (put (codes "box") d ms) (record { operation = line.operation; path = line.path; region = Some r; chunk = line.chunk; cells = line.cells; options = line.options })
+      → IsLine workers (put (codes "box") d ms) (record { operation = line.operation; path = line.path; region = Some r; chunk = line.chunk; cells = line.cells; options = line.options })
   with_region r said = (
     ap (option_and_then (λ d. option_and_then operation_named (as_str d))) (kept (codes "op") (codes "box") d ms refl) ∙ is.0,
     ap (option_and_then as_str) (kept (codes "path") (codes "box") d ms refl) ∙ is.1,
     ap (option_and_then region_in) (get_member-put (codes "box") d ms) ∙ said,
     ap (option_and_then sizes_in) (kept (codes "chunk") (codes "box") d ms refl) ∙ is.3,
     kept (codes "cells") (codes "box") d ms refl ∙ is.4,
-    ap (said_or options_in no_options) (kept (codes "options") (codes "box") d ms refl) ∙ is.5,
+    ap (said_or (options_in workers) (no_options workers)) (kept (codes "options") (codes "box") d ms refl) ∙ is.5,
     λ names op path box chunk cells options. has_only-put names (codes "box") d ms box (is.6 names op path (named names (codes "box") line.region box) chunk cells options),
   )
 
   pub with_chunk : (v : Vec ℕ Global) → d ≡ number_list v.items
-      → IsLine (put (codes "chunk") d ms) (record { operation = line.operation; path = line.path; region = line.region; chunk = Some v; cells = line.cells; options = line.options })
+      → IsLine workers (put (codes "chunk") d ms) (record { operation = line.operation; path = line.path; region = line.region; chunk = Some v; cells = line.cells; options = line.options })
   with_chunk v said = (
     ap (option_and_then (λ d. option_and_then operation_named (as_str d))) (kept (codes "op") (codes "chunk") d ms refl) ∙ is.0,
     ap (option_and_then as_str) (kept (codes "path") (codes "chunk") d ms refl) ∙ is.1,
     ap (option_and_then region_in) (kept (codes "box") (codes "chunk") d ms refl) ∙ is.2,
     ap (option_and_then sizes_in) (get_member-put (codes "chunk") d ms) ∙ (ap sizes_in said ∙ sizes_of-numbers v.items),
     kept (codes "cells") (codes "chunk") d ms refl ∙ is.4,
-    ap (said_or options_in no_options) (kept (codes "options") (codes "chunk") d ms refl) ∙ is.5,
+    ap (said_or (options_in workers) (no_options workers)) (kept (codes "options") (codes "chunk") d ms refl) ∙ is.5,
     λ names op path box chunk cells options. has_only-put names (codes "chunk") d ms chunk (is.6 names op path box (named names (codes "chunk") line.chunk chunk) cells options),
   )
 
   pub with_cells : (v : Vec ℕ Global) → d ≡ number_list v.items
-      → IsLine (put (codes "cells") d ms) (record { operation = line.operation; path = line.path; region = line.region; chunk = line.chunk; cells = Some v; options = line.options })
+      → IsLine workers (put (codes "cells") d ms) (record { operation = line.operation; path = line.path; region = line.region; chunk = line.chunk; cells = Some v; options = line.options })
   with_cells v said = (
     ap (option_and_then (λ d. option_and_then operation_named (as_str d))) (kept (codes "op") (codes "cells") d ms refl) ∙ is.0,
     ap (option_and_then as_str) (kept (codes "path") (codes "cells") d ms refl) ∙ is.1,
     ap (option_and_then region_in) (kept (codes "box") (codes "cells") d ms refl) ∙ is.2,
     ap (option_and_then sizes_in) (kept (codes "chunk") (codes "cells") d ms refl) ∙ is.3,
     get_member-put (codes "cells") d ms ∙ ap Some said,
-    ap (said_or options_in no_options) (kept (codes "options") (codes "cells") d ms refl) ∙ is.5,
+    ap (said_or (options_in workers) (no_options workers)) (kept (codes "options") (codes "cells") d ms refl) ∙ is.5,
     λ names op path box chunk cells options. has_only-put names (codes "cells") d ms cells (is.6 names op path box chunk (named names (codes "cells") line.cells cells) options),
   )
 
-  pub with_options : (o : CodecOptions) → options_in d ≡ Some o
-      → IsLine (put (codes "options") d ms) (record { operation = line.operation; path = line.path; region = line.region; chunk = line.chunk; cells = line.cells; options = Some o })
+  pub with_options : (o : CodecOptions) → options_in workers d ≡ Some o
+      → IsLine workers (put (codes "options") d ms) (record { operation = line.operation; path = line.path; region = line.region; chunk = line.chunk; cells = line.cells; options = Some o })
   with_options o said = (
     ap (option_and_then (λ d. option_and_then operation_named (as_str d))) (kept (codes "op") (codes "options") d ms refl) ∙ is.0,
     ap (option_and_then as_str) (kept (codes "path") (codes "options") d ms refl) ∙ is.1,
     ap (option_and_then region_in) (kept (codes "box") (codes "options") d ms refl) ∙ is.2,
     ap (option_and_then sizes_in) (kept (codes "chunk") (codes "options") d ms refl) ∙ is.3,
     kept (codes "cells") (codes "options") d ms refl ∙ is.4,
-    ap (said_or options_in no_options) (get_member-put (codes "options") d ms) ∙ said,
+    ap (said_or (options_in workers) (no_options workers)) (get_member-put (codes "options") d ms) ∙ said,
     λ names op path box chunk cells options. has_only-put names (codes "options") d ms options (is.6 names op path box chunk cells (named names (codes "options") line.options options)),
   )

@@ -9,7 +9,7 @@ use Rattle.serde_json.specs.Read.{converted, of_json}
 use Rattle.serde_json.proofs.Views.{get_member-put}
 use Rattle.zarr_codecs_options.specs.declared.codec_options.CodecOptions.{CodecOptions}
 use Rattle.zarr_grids_metadata.specs.Members.{has_only}
-use Rattle.zarr_run_commands.specs.Lines.{said_or, flag, option_names, options_of}
+use Rattle.zarr_run_commands.specs.Lines.{said_or, optional, option_names, options_of}
 use Rattle.zarr_run_commands.proofs.Fields.{has_only-put, kept}
 use Rattle.zarr_run_commands.proofs.Saying.{no_value}
 
@@ -43,39 +43,43 @@ flags_of true (Some p) (Some e) (Some w) o is = record {
 from_flags : (only : Bool) (partial empty workers : Option Bool) (o : CodecOptions) → Flags only partial empty workers o → options_from only partial empty workers ≡ Some o
 from_flags only partial empty workers o are = rw (are.only_is, are.partial_is, are.empty_is, are.workers_is) refl
 
-module _ (ms : Members) (o : CodecOptions) (is : options_of ms ≡ Some o) (b : Bool) where
-  old : Flags (has_only option_names ms) (flag (codes "partial") ms) (flag (codes "empty") ms) (flag (codes "workers") ms) o
-  old = flags_of (has_only option_names ms) (flag (codes "partial") ms) (flag (codes "empty") ms) (flag (codes "workers") ms) o is
+-- the flag with this name, or this value where it is absent
+abbrev flag_or : Bool → List ℕ → Members → Option Bool
+flag_or = optional as_bool
 
-  set : (name : List ℕ) → flag name (put name (boolean b) ms) ≡ Some b
-  set name = ap (said_or as_bool false) (get_member-put name (boolean b) ms)
+module _ (workers : Bool) (ms : Members) (o : CodecOptions) (is : options_of workers ms ≡ Some o) (b : Bool) where
+  old : Flags (has_only option_names ms) (flag_or false (codes "partial") ms) (flag_or false (codes "empty") ms) (flag_or workers (codes "workers") ms) o
+  old = flags_of (has_only option_names ms) (flag_or false (codes "partial") ms) (flag_or false (codes "empty") ms) (flag_or workers (codes "workers") ms) o is
 
-  left : (other name : List ℕ) → bytes_eq other name ≡ false → flag other (put name (boolean b) ms) ≡ flag other ms
-  left other name differ = ap (said_or as_bool false) (kept other name (boolean b) ms differ)
+  set : (absent : Bool) (name : List ℕ) → flag_or absent name (put name (boolean b) ms) ≡ Some b
+  set absent name = ap (said_or as_bool absent) (get_member-put name (boolean b) ms)
 
-  pub with_partial : options_of (put (codes "partial") (boolean b) ms)
+  left : (absent : Bool) (other name : List ℕ) → bytes_eq other name ≡ false → flag_or absent other (put name (boolean b) ms) ≡ flag_or absent other ms
+  left absent other name differ = ap (said_or as_bool absent) (kept other name (boolean b) ms differ)
+
+  pub with_partial : options_of workers (put (codes "partial") (boolean b) ms)
       ≡ Some (record { store_empty_chunks = o.store_empty_chunks; experimental_partial_encoding = b; workers = o.workers })
   with_partial = from_flags _ _ _ _ _ (record {
     only_is = has_only-put option_names (codes "partial") (boolean b) ms refl old.only_is;
-    partial_is = set (codes "partial");
-    empty_is = left (codes "empty") (codes "partial") refl ∙ old.empty_is;
-    workers_is = left (codes "workers") (codes "partial") refl ∙ old.workers_is;
+    partial_is = set false (codes "partial");
+    empty_is = left false (codes "empty") (codes "partial") refl ∙ old.empty_is;
+    workers_is = left workers (codes "workers") (codes "partial") refl ∙ old.workers_is;
   })
 
-  pub with_empty : options_of (put (codes "empty") (boolean b) ms)
+  pub with_empty : options_of workers (put (codes "empty") (boolean b) ms)
       ≡ Some (record { store_empty_chunks = b; experimental_partial_encoding = o.experimental_partial_encoding; workers = o.workers })
   with_empty = from_flags _ _ _ _ _ (record {
     only_is = has_only-put option_names (codes "empty") (boolean b) ms refl old.only_is;
-    partial_is = left (codes "partial") (codes "empty") refl ∙ old.partial_is;
-    empty_is = set (codes "empty");
-    workers_is = left (codes "workers") (codes "empty") refl ∙ old.workers_is;
+    partial_is = left false (codes "partial") (codes "empty") refl ∙ old.partial_is;
+    empty_is = set false (codes "empty");
+    workers_is = left workers (codes "workers") (codes "empty") refl ∙ old.workers_is;
   })
 
-  pub with_workers : options_of (put (codes "workers") (boolean b) ms)
+  pub with_workers : options_of workers (put (codes "workers") (boolean b) ms)
       ≡ Some (record { store_empty_chunks = o.store_empty_chunks; experimental_partial_encoding = o.experimental_partial_encoding; workers = b })
   with_workers = from_flags _ _ _ _ _ (record {
     only_is = has_only-put option_names (codes "workers") (boolean b) ms refl old.only_is;
-    partial_is = left (codes "partial") (codes "workers") refl ∙ old.partial_is;
-    empty_is = left (codes "empty") (codes "workers") refl ∙ old.empty_is;
-    workers_is = set (codes "workers");
+    partial_is = left false (codes "partial") (codes "workers") refl ∙ old.partial_is;
+    empty_is = left false (codes "empty") (codes "workers") refl ∙ old.empty_is;
+    workers_is = set workers (codes "workers");
   })

@@ -9,3 +9,4 @@ pub mod Flags
 pub mod Saying
 pub mod Digits
 pub mod Cursors
+pub mod Workers

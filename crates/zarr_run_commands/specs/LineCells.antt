@@ -1,5 +1,5 @@
 -- Lines whose members were read one by one.
-use Rattle.std.specs.Prelude.{◌≡◌, ℕ, List, true, ⊤, bytes_eq, codes, string_bytes, Option, Some, None, option_map, option_and_then, unwrap_or}
+use Rattle.std.specs.Prelude.{◌≡◌, ℕ, List, Bool, true, ⊤, bytes_eq, codes, string_bytes, Option, Some, None, option_map, option_and_then, unwrap_or}
 use Rattle.std.specs.List.{list_any}
 use Rattle.json.specs.Token.{Token}
 use Rattle.json.specs.Json.{value}
@@ -31,9 +31,9 @@ HasFields line ms =
     (names : List (List ℕ)) → IsNamed names (codes "op") line.operation → IsNamed names (codes "path") line.path → IsNamed names (codes "box") line.region
     → IsNamed names (codes "chunk") line.chunk → IsNamed names (codes "cells") line.cells → IsNamed names (codes "options") line.options → has_only names ms ≡ true
 
--- the fields of a line are what the members of an object say
-abbrev pub IsLine : Members → Line → Type 0
-IsLine ms line =
+-- the fields of a line are what the members of an object say, with this value of `workers` where they don't say it
+abbrev pub IsLine : Bool → Members → Line → Type 0
+IsLine workers ms line =
     (operation_of ms ≡ line.operation) × (path_of ms ≡ option_map string_bytes line.path) × (box_of ms ≡ option_map region_of line.region)
     × (chunk_of ms ≡ option_map (λ v. v.items) line.chunk) × (get_member (codes "cells") ms ≡ option_map (λ v. number_list v.items) line.cells)
-    × (line_options_of ms ≡ Some (unwrap_or line.options no_options)) × HasFields line ms
+    × (line_options_of workers ms ≡ Some (unwrap_or line.options (no_options workers))) × HasFields line ms

@@ -50,22 +50,22 @@ option_names = codes "partial" ∷ codes "empty" ∷ codes "workers" ∷ []
 abbrev pub flag : List ℕ → Members → Option Bool
 flag = optional as_bool false
 
--- the options that an object's members say
-abbrev pub options_of : Members → Option CodecOptions
-options_of ms =
+-- the options that an object's members say, with this value of `workers` where they don't say it
+abbrev pub options_of : Bool → Members → Option CodecOptions
+options_of workers ms =
     if has_only option_names ms then
-    option_and_then (λ partial. option_and_then (λ empty. option_map (λ workers.
-    record { store_empty_chunks = empty; experimental_partial_encoding = partial; workers = workers })
-    (flag (codes "workers") ms)) (flag (codes "empty") ms)) (flag (codes "partial") ms)
+    option_and_then (λ partial. option_and_then (λ empty. option_map (λ said.
+    record { store_empty_chunks = empty; experimental_partial_encoding = partial; workers = said })
+    (optional as_bool workers (codes "workers") ms)) (flag (codes "empty") ms)) (flag (codes "partial") ms)
     else None
 
 -- the options that a JSON value says
-abbrev pub options_in : Data → Option CodecOptions
-options_in d = option_and_then options_of (as_object d)
+abbrev pub options_in : Bool → Data → Option CodecOptions
+options_in workers d = option_and_then (options_of workers) (as_object d)
 
--- with no options given, all are false
-abbrev pub no_options : CodecOptions
-no_options = record { store_empty_chunks = false; experimental_partial_encoding = false; workers = false }
+-- with no options given, all are false but `workers`, which has this value
+abbrev pub no_options : Bool → CodecOptions
+no_options workers = record { store_empty_chunks = false; experimental_partial_encoding = false; workers = workers }
 
 -- the whole number that a JSON value says
 abbrev pub number_in : Data → Option ℕ
@@ -144,45 +144,49 @@ box_of = needed region_in (codes "box")
 abbrev pub chunk_of : Members → Option (List ℕ)
 chunk_of = needed sizes_in (codes "chunk")
 
--- the options that the members say, all false where they have none
-abbrev pub line_options_of : Members → Option CodecOptions
-line_options_of = optional options_in no_options (codes "options")
+-- the options that the members say; a flag that they don't say is false, but `workers`, which has this value
+abbrev pub line_options_of : Bool → Members → Option CodecOptions
+line_options_of workers = optional (options_in workers) (no_options workers) (codes "options")
 
 -- what the members ask to be written to this target
-abbrev pub write_of : Option Target → Members → Option Request
-write_of target ms =
+abbrev pub write_of : Bool → Option Target → Members → Option Request
+write_of workers target ms =
     option_and_then (λ path. option_and_then (λ meant. option_and_then (λ cells. option_map (λ options. write path meant (given_json cells) options)
-    (line_options_of ms)) (get_member (codes "cells") ms)) target) (path_of ms)
+    (line_options_of workers ms)) (get_member (codes "cells") ms)) target) (path_of ms)
 
 -- what the members ask to be read of this target
-abbrev pub read_of : Option Target → Members → Option Request
-read_of target ms =
+abbrev pub read_of : Bool → Option Target → Members → Option Request
+read_of workers target ms =
     option_and_then (λ path. option_and_then (λ meant. option_map (λ options. read path meant options)
-    (line_options_of ms)) target) (path_of ms)
+    (line_options_of workers ms)) target) (path_of ms)
 
--- what the members ask by this operation
-abbrev pub request_by : Operation → Members → Option Request
-request_by Create ms =
+-- what the members ask by this operation, with this value of `workers` where they don't say it
+abbrev pub request_by : Bool → Operation → Members → Option Request
+request_by workers Create ms =
     option_and_then (λ path. option_and_then (λ document. option_map (λ order. create path document order)
     (order_of ms)) (get_member (codes "document") ms)) (path_of ms)
-request_by Reopen ms = option_and_then (λ path. option_map (λ order. reopen path order) (order_of ms)) (path_of ms)
-request_by WriteBox ms = write_of (option_map in_box (box_of ms)) ms
-request_by WriteChunk ms = write_of (option_map in_chunk (chunk_of ms)) ms
-request_by ReadBox ms = read_of (option_map in_box (box_of ms)) ms
-request_by ReadChunk ms = read_of (option_map in_chunk (chunk_of ms)) ms
-request_by EraseChunks ms = option_and_then (λ path. option_map (λ chunks. erase path chunks) (box_of ms)) (path_of ms)
-request_by Compact ms = option_and_then (λ path. option_and_then (λ chunk. option_map (λ options. compact path chunk options) (line_options_of ms)) (chunk_of ms)) (path_of ms)
-request_by Rewrite ms = option_and_then (λ path. option_map (λ options. rewrite path options) (line_options_of ms)) (path_of ms)
+request_by workers Reopen ms = option_and_then (λ path. option_map (λ order. reopen path order) (order_of ms)) (path_of ms)
+request_by workers WriteBox ms = write_of workers (option_map in_box (box_of ms)) ms
+request_by workers WriteChunk ms = write_of workers (option_map in_chunk (chunk_of ms)) ms
+request_by workers ReadBox ms = read_of workers (option_map in_box (box_of ms)) ms
+request_by workers ReadChunk ms = read_of workers (option_map in_chunk (chunk_of ms)) ms
+request_by workers EraseChunks ms = option_and_then (λ path. option_map (λ chunks. erase path chunks) (box_of ms)) (path_of ms)
+request_by workers Compact ms = option_and_then (λ path. option_and_then (λ chunk. option_map (λ options. compact path chunk options) (line_options_of workers ms)) (chunk_of ms)) (path_of ms)
+request_by workers Rewrite ms = option_and_then (λ path. option_map (λ options. rewrite path options) (line_options_of workers ms)) (path_of ms)
 
 -- what the members ask; a field that the operation does not have is refused
-abbrev pub request_of : Members → Option Request
-request_of ms = option_and_then (λ operation. if has_only (field_names operation) ms then request_by operation ms else None) (operation_of ms)
+abbrev pub request_of : Bool → Members → Option Request
+request_of workers ms = option_and_then (λ operation. if has_only (field_names operation) ms then request_by workers operation ms else None) (operation_of ms)
 
 -- what a JSON value asks
-abbrev pub request_in : Data → Option Request
-request_in d = option_and_then request_of (as_object d)
+abbrev pub request_in : Bool → Data → Option Request
+request_in workers d = option_and_then (request_of workers) (as_object d)
 
--- what a line asks, or nothing: it is UTF-8 and its JSON asks this
+-- what a line asks, or nothing, with this value of `workers` where the line doesn't say it: it is UTF-8 and its JSON asks this
+abbrev pub SaysWith : Bool → List ℕ → Option Request → Type 0
+SaysWith workers line None = IsUtf8 line → option_and_then (request_in workers) (json_of line) ≡ None
+SaysWith workers line (Some request) = IsUtf8 line × (option_and_then (request_in workers) (json_of line) ≡ Some request)
+
+-- what a line asks, or nothing: it is UTF-8 and its JSON asks this; `workers` is false where the line doesn't say it
 abbrev pub Says : List ℕ → Option Request → Type 0
-Says line None = IsUtf8 line → option_and_then request_in (json_of line) ≡ None
-Says line (Some request) = IsUtf8 line × (option_and_then request_in (json_of line) ≡ Some request)
+Says = SaysWith false

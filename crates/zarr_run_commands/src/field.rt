@@ -1,9 +1,10 @@
 //! The fields of a line that are not taken as they stand.
 ghost use Rattle.std.specs.Prelude.{◌≡◌, ◌+◌, ◌^◌, ◌<◌, IfOk, IfSome, option_map};
+ghost use Rattle.serde_json.specs.Find.{as_bool};
 ghost use Rattle.serde_json.specs.View.{view, items_view, members_view};
 ghost use Rattle.zarr_grids_boxes.specs.Subsets.{region_of};
 ghost use Rattle.zarr_grids_configurations.specs.Numbers.{sizes_of};
-ghost use Rattle.zarr_run_commands.specs.Lines.{order_named, order_of, flag, no_options, options_of, line_options_of, interval_of, interval_in, region_of_pairs, box_of, chunk_of};
+ghost use Rattle.zarr_run_commands.specs.Lines.{order_named, order_of, optional, no_options, options_of, line_options_of, interval_of, interval_in, region_of_pairs, box_of, chunk_of};
 
 use serde_json::{Map, Value};
 use std::alloc::{AllocError, Global};
@@ -32,46 +33,46 @@ fn order_from_name(name: &str) -> Option<SubchunkWriteOrder>
     }
 }
 
-/// The options of a line, all false where it has none.
-pub(crate) fn options(line: &Map<String, Value>) -> Option<CodecOptions>
-    ensures { result ≡ line_options_of (members_view line.now.entries) }
+/// The options of a line: one that it doesn't give is false, but `workers`, which has this value.
+pub(crate) fn options(line: &Map<String, Value>, workers: bool) -> Option<CodecOptions>
+    ensures { result ≡ line_options_of workers (members_view line.now.entries) }
 {
     match member(line, "options") {
-        Some(options) => read_options(options.as_object()?),
-        None => Some(no_options()),
+        Some(options) => read_options(options.as_object()?, workers),
+        None => Some(no_options(workers)),
     }
 }
 
-/// The options of a line that gives none: all are false.
-pub(crate) fn no_options() -> CodecOptions
-    ensures { result ≡ no_options }
+/// The options of a line that gives none: all are false but `workers`, which has this value.
+pub(crate) fn no_options(workers: bool) -> CodecOptions
+    ensures { result ≡ no_options workers }
 {
     CodecOptions {
         store_empty_chunks: false,
         experimental_partial_encoding: false,
-        workers: false,
+        workers,
     }
 }
 
-fn read_options(options: &Map<String, Value>) -> Option<CodecOptions>
-    ensures { result ≡ options_of (members_view options.now.entries) }
+fn read_options(options: &Map<String, Value>, workers: bool) -> Option<CodecOptions>
+    ensures { result ≡ options_of workers (members_view options.now.entries) }
 {
     if !has_only(options, &["partial", "empty", "workers"]) {
         return None;
     }
     Some(CodecOptions {
-        experimental_partial_encoding: read_flag(options, "partial")?,
-        store_empty_chunks: read_flag(options, "empty")?,
-        workers: read_flag(options, "workers")?,
+        experimental_partial_encoding: read_flag(options, "partial", false)?,
+        store_empty_chunks: read_flag(options, "empty", false)?,
+        workers: read_flag(options, "workers", workers)?,
     })
 }
 
-fn read_flag(options: &Map<String, Value>, name: &str) -> Option<bool>
-    ensures { result ≡ flag name.now (members_view options.now.entries) }
+fn read_flag(options: &Map<String, Value>, name: &str, absent: bool) -> Option<bool>
+    ensures { result ≡ optional as_bool absent name.now (members_view options.now.entries) }
 {
     match member(options, name) {
         Some(value) => value.as_bool(),
-        None => Some(false),
+        None => Some(absent),
     }
 }
 

@@ -1,10 +1,10 @@
 //! The commands of lines.
-ghost use Rattle.std.specs.Prelude.{◌≡◌, Some, IfOk, IfSome, option_and_then, option_map};
+ghost use Rattle.std.specs.Prelude.{◌≡◌, Some, IfOk, IfSome, false, option_and_then, option_map};
 ghost use Rattle.serde_json.specs.Data.{Members};
 ghost use Rattle.serde_json.specs.Read.{read as json_of};
 ghost use Rattle.serde_json.specs.View.{view, members_view};
 ghost use Rattle.zarr_run_commands.specs.Commands.{asked};
-ghost use Rattle.zarr_run_commands.specs.Lines.{Says, request_in, request_of, request_by};
+ghost use Rattle.zarr_run_commands.specs.Lines.{Says, SaysWith, request_in, request_of, request_by};
 ghost use Rattle.zarr_run_commands.specs.LineCells.{IsLine};
 
 use crate::command::{Command, CommandCells};
@@ -18,32 +18,43 @@ use std::alloc::{AllocError, Global};
 #[derive(Drop)]
 pub struct CommandReader {
     alloc: Global,
+    /// The option `workers` of a line that doesn't say it.
+    workers: bool,
 }
 
 impl CommandReader {
-    ghost use Rattle.std.specs.Prelude.{IfOk, option_map};
+    ghost use Rattle.std.specs.Prelude.{◌≡◌, IfOk, option_map};
     ghost use Rattle.zarr_run_commands.specs.Commands.{asked};
-    ghost use Rattle.zarr_run_commands.specs.Lines.{Says};
+    ghost use Rattle.zarr_run_commands.specs.Lines.{SaysWith};
 
-    /// A reader whose commands take memory of `alloc`.
-    pub fn new(alloc: Global) -> CommandReader {
-        CommandReader { alloc }
+    /// A reader whose commands take memory of `alloc`. A line that doesn't say its option `workers`
+    /// has this one.
+    pub fn new(alloc: Global, workers: bool) -> CommandReader
+        ensures { result.workers ≡ workers }
+    {
+        CommandReader { alloc, workers }
+    }
+
+    /// The allocator of its commands.
+    pub fn alloc(&self) -> Global {
+        self.alloc
     }
 
     /// The command of a line, or `None` where the line is no command.
-    pub fn read(&mut self, line: &[u8]) -> Result<Option<Command>, AllocError>
-        ensures { IfOk result (λ said. Says line.now (option_map asked said)) }
+    pub fn read(&self, line: &[u8]) -> Result<Option<Command>, AllocError>
+        ensures { IfOk result
+            (λ said. SaysWith self.now.workers line.now (option_map asked said)) }
     {
         let Ok(text) = simdutf8::basic::from_utf8(line) else {
             return Ok(None);
         };
-        match read_line(self.alloc, text) {
-            Ok(line) => match command_of_line(line) {
+        match read_line(self.alloc, text, self.workers) {
+            Ok(line) => match command_of_line(line, self.workers) {
                 Some(command) => Ok(Some(command)),
-                None => command_of_text(self.alloc, text),
+                None => command_of_text(self.alloc, text, self.workers),
             },
             Err(NotRead::Memory) => Err(AllocError),
-            Err(NotRead::Other) => command_of_text(self.alloc, text),
+            Err(NotRead::Other) => command_of_text(self.alloc, text, self.workers),
         }
     }
 }
@@ -52,17 +63,17 @@ impl CommandReader {
 pub fn read_command(alloc: Global, line: &[u8]) -> Result<Option<Command>, AllocError>
     ensures { IfOk result (λ said. Says line.now (option_map asked said)) }
 {
-    let mut reader = CommandReader::new(alloc);
+    let reader = CommandReader::new(alloc, false);
     reader.read(line)
 }
 
 /// The command that a text asks, whatever its members are.
-fn command_of_text(alloc: Global, text: &str) -> Result<Option<Command>, AllocError>
+fn command_of_text(alloc: Global, text: &str, workers: bool) -> Result<Option<Command>, AllocError>
     ensures { IfOk result (λ said. option_map asked said
-        ≡ option_and_then request_in (json_of text.now)) }
+        ≡ option_and_then (request_in workers) (json_of text.now)) }
 {
     match Value::from_str(alloc, text) {
-        Ok(value) => command_in(alloc, value),
+        Ok(value) => command_in(alloc, value, workers),
         Err(e) => {
             if e.is_memory() {
                 return Err(AllocError);
@@ -74,9 +85,9 @@ fn command_of_text(alloc: Global, text: &str) -> Result<Option<Command>, AllocEr
 
 /// The command that the members of a line ask. `None` where it asks none, or one that is read of
 /// its JSON alone.
-fn command_of_line(line: Line) -> Option<Command>
-    ensures { IfSome result (λ command. (ms : Members) → IsLine ms line
-        → request_of ms ≡ Some (asked command)) }
+fn command_of_line(line: Line, workers: bool) -> Option<Command>
+    ensures { IfSome result (λ command. (ms : Members) → IsLine workers ms line
+        → request_of workers ms ≡ Some (asked command)) }
 {
     let Line {
         operation,
@@ -92,7 +103,7 @@ fn command_of_line(line: Line) -> Option<Command>
         None => None,
     };
     let has_options = options.is_some();
-    let options = options.unwrap_or(field::no_options());
+    let options = options.unwrap_or(field::no_options(workers));
     match (operation, region, chunk, cells) {
         (Operation::WriteBox, Some(region), None, Some(cells)) => Some(Command::WriteBox {
             path,
@@ -124,18 +135,23 @@ fn command_of_line(line: Line) -> Option<Command>
 }
 
 /// The command that a JSON value asks.
-fn command_in(alloc: Global, value: Value) -> Result<Option<Command>, AllocError>
-    ensures { IfOk result (λ said. option_map asked said ≡ request_in (view value)) }
+fn command_in(alloc: Global, value: Value, workers: bool) -> Result<Option<Command>, AllocError>
+    ensures { IfOk result (λ said. option_map asked said ≡ request_in workers (view value)) }
 {
     match value {
-        Value::Object(line) => command_of(alloc, line),
+        Value::Object(line) => command_of(alloc, line, workers),
         _ => Ok(None),
     }
 }
 
 /// The command that an object's members ask.
-fn command_of(alloc: Global, line: Map<String, Value>) -> Result<Option<Command>, AllocError>
-    ensures { IfOk result (λ said. option_map asked said ≡ request_of (members_view line.entries)) }
+fn command_of(
+    alloc: Global,
+    line: Map<String, Value>,
+    workers: bool,
+) -> Result<Option<Command>, AllocError>
+    ensures { IfOk result (λ said. option_map asked said
+        ≡ request_of workers (members_view line.entries)) }
 {
     let Some(operation) = Operation::of_members(&line) else {
         return Ok(None);
@@ -146,18 +162,19 @@ fn command_of(alloc: Global, line: Map<String, Value>) -> Result<Option<Command>
     match operation {
         Operation::Create => Ok(create(line)),
         Operation::Reopen => Ok(reopen(line)),
-        Operation::WriteBox => write_box(alloc, line),
-        Operation::WriteChunk => write_chunk(alloc, line),
-        Operation::ReadBox => read_box(alloc, line),
-        Operation::ReadChunk => read_chunk(alloc, line),
+        Operation::WriteBox => write_box(alloc, line, workers),
+        Operation::WriteChunk => write_chunk(alloc, line, workers),
+        Operation::ReadBox => read_box(alloc, line, workers),
+        Operation::ReadChunk => read_chunk(alloc, line, workers),
         Operation::EraseChunks => erase_chunks(alloc, line),
-        Operation::Compact => compact(alloc, line),
-        Operation::Rewrite => Ok(rewrite(line)),
+        Operation::Compact => compact(alloc, line, workers),
+        Operation::Rewrite => Ok(rewrite(line, workers)),
     }
 }
 
 fn create(mut line: Map<String, Value>) -> Option<Command>
-    ensures { option_map asked result ≡ request_by Operation.Create (members_view line.entries) }
+    ensures { option_map asked result
+        ≡ request_by false Operation.Create (members_view line.entries) }
 {
     let order = field::order(&line)?;
     let path = members::take_text(&mut line, "path")?;
@@ -170,18 +187,23 @@ fn create(mut line: Map<String, Value>) -> Option<Command>
 }
 
 fn reopen(mut line: Map<String, Value>) -> Option<Command>
-    ensures { option_map asked result ≡ request_by Operation.Reopen (members_view line.entries) }
+    ensures { option_map asked result
+        ≡ request_by false Operation.Reopen (members_view line.entries) }
 {
     let order = field::order(&line)?;
     let path = members::take_text(&mut line, "path")?;
     Some(Command::Reopen { path, order })
 }
 
-fn write_box(alloc: Global, mut line: Map<String, Value>) -> Result<Option<Command>, AllocError>
+fn write_box(
+    alloc: Global,
+    mut line: Map<String, Value>,
+    workers: bool,
+) -> Result<Option<Command>, AllocError>
     ensures { IfOk result (λ said. option_map asked said
-        ≡ request_by Operation.WriteBox (members_view line.entries)) }
+        ≡ request_by workers Operation.WriteBox (members_view line.entries)) }
 {
-    let Some(options) = field::options(&line) else {
+    let Some(options) = field::options(&line, workers) else {
         return Ok(None);
     };
     let Some(region) = field::region(alloc, &line)? else {
@@ -201,11 +223,15 @@ fn write_box(alloc: Global, mut line: Map<String, Value>) -> Result<Option<Comma
     }))
 }
 
-fn write_chunk(alloc: Global, mut line: Map<String, Value>) -> Result<Option<Command>, AllocError>
+fn write_chunk(
+    alloc: Global,
+    mut line: Map<String, Value>,
+    workers: bool,
+) -> Result<Option<Command>, AllocError>
     ensures { IfOk result (λ said. option_map asked said
-        ≡ request_by Operation.WriteChunk (members_view line.entries)) }
+        ≡ request_by workers Operation.WriteChunk (members_view line.entries)) }
 {
-    let Some(options) = field::options(&line) else {
+    let Some(options) = field::options(&line, workers) else {
         return Ok(None);
     };
     let Some(chunk) = field::chunk(alloc, &line)? else {
@@ -225,11 +251,15 @@ fn write_chunk(alloc: Global, mut line: Map<String, Value>) -> Result<Option<Com
     }))
 }
 
-fn read_box(alloc: Global, mut line: Map<String, Value>) -> Result<Option<Command>, AllocError>
+fn read_box(
+    alloc: Global,
+    mut line: Map<String, Value>,
+    workers: bool,
+) -> Result<Option<Command>, AllocError>
     ensures { IfOk result (λ said. option_map asked said
-        ≡ request_by Operation.ReadBox (members_view line.entries)) }
+        ≡ request_by workers Operation.ReadBox (members_view line.entries)) }
 {
-    let Some(options) = field::options(&line) else {
+    let Some(options) = field::options(&line, workers) else {
         return Ok(None);
     };
     let Some(region) = field::region(alloc, &line)? else {
@@ -245,11 +275,15 @@ fn read_box(alloc: Global, mut line: Map<String, Value>) -> Result<Option<Comman
     }))
 }
 
-fn read_chunk(alloc: Global, mut line: Map<String, Value>) -> Result<Option<Command>, AllocError>
+fn read_chunk(
+    alloc: Global,
+    mut line: Map<String, Value>,
+    workers: bool,
+) -> Result<Option<Command>, AllocError>
     ensures { IfOk result (λ said. option_map asked said
-        ≡ request_by Operation.ReadChunk (members_view line.entries)) }
+        ≡ request_by workers Operation.ReadChunk (members_view line.entries)) }
 {
-    let Some(options) = field::options(&line) else {
+    let Some(options) = field::options(&line, workers) else {
         return Ok(None);
     };
     let Some(chunk) = field::chunk(alloc, &line)? else {
@@ -267,7 +301,7 @@ fn read_chunk(alloc: Global, mut line: Map<String, Value>) -> Result<Option<Comm
 
 fn erase_chunks(alloc: Global, mut line: Map<String, Value>) -> Result<Option<Command>, AllocError>
     ensures { IfOk result (λ said. option_map asked said
-        ≡ request_by Operation.EraseChunks (members_view line.entries)) }
+        ≡ request_by false Operation.EraseChunks (members_view line.entries)) }
 {
     let Some(chunks) = field::region(alloc, &line)? else {
         return Ok(None);
@@ -278,11 +312,15 @@ fn erase_chunks(alloc: Global, mut line: Map<String, Value>) -> Result<Option<Co
     Ok(Some(Command::EraseChunks { path, chunks }))
 }
 
-fn compact(alloc: Global, mut line: Map<String, Value>) -> Result<Option<Command>, AllocError>
+fn compact(
+    alloc: Global,
+    mut line: Map<String, Value>,
+    workers: bool,
+) -> Result<Option<Command>, AllocError>
     ensures { IfOk result (λ said. option_map asked said
-        ≡ request_by Operation.Compact (members_view line.entries)) }
+        ≡ request_by workers Operation.Compact (members_view line.entries)) }
 {
-    let Some(options) = field::options(&line) else {
+    let Some(options) = field::options(&line, workers) else {
         return Ok(None);
     };
     let Some(chunk) = field::chunk(alloc, &line)? else {
@@ -298,10 +336,11 @@ fn compact(alloc: Global, mut line: Map<String, Value>) -> Result<Option<Command
     }))
 }
 
-fn rewrite(mut line: Map<String, Value>) -> Option<Command>
-    ensures { option_map asked result ≡ request_by Operation.Rewrite (members_view line.entries) }
+fn rewrite(mut line: Map<String, Value>, workers: bool) -> Option<Command>
+    ensures { option_map asked result
+        ≡ request_by workers Operation.Rewrite (members_view line.entries) }
 {
-    let options = field::options(&line)?;
+    let options = field::options(&line, workers)?;
     let path = members::take_text(&mut line, "path")?;
     Some(Command::Rewrite { path, options })
 }

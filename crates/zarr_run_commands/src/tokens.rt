@@ -189,13 +189,13 @@ fn read_list(alloc: Global, reader: &mut Cursor<'_>) -> Result<Vec<u64>, NotRead
     }
 }
 
-/// Options.
-fn next_options(reader: &mut Cursor<'_>) -> Result<CodecOptions, NotRead>
+/// Options, with this value of `workers` where they don't give it.
+fn next_options(reader: &mut Cursor<'_>, workers: bool) -> Result<CodecOptions, NotRead>
     ensures ok { IfOk result
-        (λ options. reads options_in reader.old ≡ Some (options, reader.new)) }
+        (λ options. reads (options_in workers) reader.old ≡ Some (options, reader.new)) }
     ensures shorter { OnOk result (length reader.new < length reader.old) }
 {
-    match read_options(reader) {
+    match read_options(reader, workers) {
         Some(options) => Ok(options),
         None => Err(NotRead::Other),
     }
@@ -206,11 +206,12 @@ fn read_member(
     alloc: Global,
     reader: &mut Cursor<'_>,
     name: &str,
+    workers: bool,
     line: &mut Line,
 ) -> Result<(), NotRead>
-    ensures ok { OnOk result ((ms : Members) → IsLine ms line.old → (d : Data)
+    ensures ok { OnOk result ((ms : Members) → IsLine workers ms line.old → (d : Data)
         × (converted of_json (value 126 reader.old) ≡ Some (d, reader.new))
-        × IsLine (put name.now d ms) line.new) }
+        × IsLine workers (put name.now d ms) line.new) }
     ensures shorter { OnOk result (length reader.new < length reader.old) }
 {
     match name {
@@ -219,7 +220,7 @@ fn read_member(
         "box" => line.region = Some(read_region(alloc, reader)?),
         "chunk" => line.chunk = Some(read_list(alloc, reader)?),
         "cells" => line.cells = Some(read_list(alloc, reader)?),
-        "options" => line.options = Some(next_options(reader)?),
+        "options" => line.options = Some(next_options(reader, workers)?),
         _ => return Err(NotRead::Other),
     }
     Ok(())
@@ -237,8 +238,8 @@ fn next_key<'a>(reader: &mut Cursor<'a>) -> Result<Option<&'a str>, NotRead>
 }
 
 /// The members of an object that has begun.
-fn read_members(alloc: Global, reader: &mut Cursor<'_>) -> Result<Line, NotRead>
-    ensures { IfOk result (λ line. (ms : Members) × IsLine ms line
+fn read_members(alloc: Global, reader: &mut Cursor<'_>, workers: bool) -> Result<Line, NotRead>
+    ensures { IfOk result (λ line. (ms : Members) × IsLine workers ms line
         × (converted (λ js. of_members js no_members)
         (members (value 126) (length reader.old) reader.old) ≡ Some (ms, reader.new))) }
 {
@@ -251,21 +252,22 @@ fn read_members(alloc: Global, reader: &mut Cursor<'_>) -> Result<Line, NotRead>
         options: None,
     };
     'members: while let Some(name) = next_key(reader)? {
-        read_member(alloc, reader, name, &mut line)?;
+        read_member(alloc, reader, name, workers, &mut line)?;
     }
     Ok(line)
 }
 
-/// What the members of the object that a text is say.
-pub(crate) fn read_line(alloc: Global, text: &str) -> Result<Line, NotRead>
+/// What the members of the object that a text is say, with this value of `workers` where its
+/// options don't give it.
+pub(crate) fn read_line(alloc: Global, text: &str, workers: bool) -> Result<Line, NotRead>
     ensures { IfOk result
-        (λ line. (ms : Members) × IsLine ms line × (json_of text.now ≡ Some (object ms))) }
+        (λ line. (ms : Members) × IsLine workers ms line × (json_of text.now ≡ Some (object ms))) }
 {
     let mut reader = Cursor::new(text);
     if !reader.begin_object() {
         return Err(NotRead::Other);
     }
-    let line = read_members(alloc, &mut reader)?;
+    let line = read_members(alloc, &mut reader, workers)?;
     if !reader.is_at_end() {
         return Err(NotRead::Other);
     }

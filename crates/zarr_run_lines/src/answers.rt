@@ -5,14 +5,14 @@ ghost use Rattle.serde_json.specs.Written.{compact_text};
 ghost use Rattle.zarr_codecs_types.specs.Views.{type_of};
 ghost use Rattle.zarr_run_commands.specs.Answers.{answer_json};
 ghost use Rattle.zarr_run_commands.specs.Commands.{answered, asked};
-ghost use Rattle.zarr_run_commands.specs.Lines.{Says};
+ghost use Rattle.zarr_run_commands.specs.Lines.{SaysWith};
 ghost use Rattle.zarr_run_session.specs.Sessions.{state_of, store_of};
 ghost use Rattle.zarr_run_lines.specs.Lines.{Answers, Leaves, output};
 ghost use Rattle.zarr_run_lines.specs.Sessions.{LeadsTo};
 
 use crate::lines::LinesFault;
 use memchr::memchr;
-use std::alloc::{AllocError, Global};
+use std::alloc::AllocError;
 use std::io::{BufReader, Read, Write};
 use std::thread::Threads;
 use zarr_array_storage::WritableStorageTraits;
@@ -43,16 +43,13 @@ fn append_reply(
 }
 
 /// The command of a line. The text of a long line is let go once it is read.
-fn take_command(
-    alloc: Global,
-    commands: &mut CommandReader,
-    line: &mut Vec<u8>,
-) -> Result<Option<Command>, AllocError>
-    ensures { IfOk result (λ said. Says line.old.items (option_map asked said)) }
+fn take_command(commands: &CommandReader, line: &mut Vec<u8>) -> Result<Option<Command>, AllocError>
+    ensures { IfOk result
+        (λ said. SaysWith commands.now.workers line.old.items (option_map asked said)) }
 {
     let command = commands.read(line.as_slice())?;
     if line.len() > LONG_LINE_BYTES {
-        *line = Vec::new(alloc);
+        *line = Vec::new(commands.alloc());
     }
     Ok(command)
 }
@@ -61,8 +58,7 @@ fn take_command(
 /// stand there.
 fn run_command<H: Threads + Sync, S: WritableStorageTraits, B: BytesToBytesCodecTraits + Sync>(
     rt: &H,
-    alloc: Global,
-    commands: &mut CommandReader,
+    commands: &CommandReader,
     session: &mut Session<S, B>,
     line: &mut Vec<u8>,
     pending: &mut Vec<u8>,
@@ -78,7 +74,7 @@ fn run_command<H: Threads + Sync, S: WritableStorageTraits, B: BytesToBytesCodec
         (λ old new. Leaves (B.reads, S.supports_set_partial) old line.old.items new)) }
     ensures honest { S.is_honest (store_of session.new) ≡ S.is_honest (store_of session.old) }
 {
-    let Some(command) = take_command(alloc, commands, line)? else {
+    let Some(command) = take_command(commands, line)? else {
         return pending.extend_from_slice(b"{\"fault\":\"line\"}\n");
     };
     let reply = session.step(rt, &command);
@@ -97,8 +93,7 @@ pub(crate) fn answer_line<
     B: BytesToBytesCodecTraits + Sync,
 >(
     rt: &H,
-    alloc: Global,
-    commands: &mut CommandReader,
+    commands: &CommandReader,
     session: &mut Session<S, B>,
     line: &mut Vec<u8>,
     pending: &mut Vec<u8>,
@@ -116,7 +111,7 @@ pub(crate) fn answer_line<
     ensures fault { IfErr result (λ fault. fault ≡ LinesFault.Memory) }
 {
     let before = pending.len();
-    match run_command(rt, alloc, commands, session, line, pending) {
+    match run_command(rt, commands, session, line, pending) {
         Ok(()) => Ok(()),
         Err(_) => {
             pending.truncate(before);

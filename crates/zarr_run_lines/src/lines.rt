@@ -32,7 +32,8 @@ impl From<AllocError> for LinesFault {
     }
 }
 
-/// Runs the lines of a reader, and writes a line of answer to each.
+/// Runs the lines of a reader, and writes a line of answer to each. A line that doesn't say its
+/// option `workers` has this one.
 ///
 /// All answers are written and flushed before a read that may wait. The line that passes a limit is
 /// not run, and the answers before it are written.
@@ -48,6 +49,7 @@ pub fn run_lines<
     session: &mut Session<S, B>,
     reader: R,
     writer: &mut W,
+    workers: bool,
 ) -> Result<(), LinesFault>
     ensures ok { IsTrue (S.is_honest (store_of session.old)) → OnOk result
         (LeadsTo B.meaning B.reads (state_of S.held S.refused_calls session.old)
@@ -67,8 +69,9 @@ pub fn run_lines<
         (output (W.contents writer.old) (W.contents writer.new)))) }
     ensures honest { S.is_honest (store_of session.new) ≡ S.is_honest (store_of session.old) }
 {
+    let commands = CommandReader::new(alloc, workers);
     let mut pending = Vec::new(alloc);
-    match answer_lines(rt, alloc, session, reader, writer, &mut pending) {
+    match answer_lines(rt, &commands, session, reader, writer, &mut pending) {
         Ok(()) => write_pending(writer, &mut pending),
         Err(LinesFault::Write) => Err(LinesFault::Write),
         Err(fault) => {
@@ -87,7 +90,7 @@ fn answer_lines<
     B: BytesToBytesCodecTraits + Sync,
 >(
     rt: &H,
-    alloc: Global,
+    commands: &CommandReader,
     session: &mut Session<S, B>,
     reader: R,
     writer: &mut W,
@@ -114,12 +117,11 @@ fn answer_lines<
         (append_known (W.contents writer.new) pending.new.items)))) }
     ensures honest { S.is_honest (store_of session.new) ≡ S.is_honest (store_of session.old) }
 {
-    let mut reader = limited(alloc, reader)?;
+    let mut reader = limited(commands.alloc(), reader)?;
     let mut limits = Limits::new();
-    let mut commands = CommandReader::new(alloc);
-    let mut line = Vec::new(alloc);
+    let mut line = Vec::new(commands.alloc());
     while next_line(&mut reader, &mut limits, &mut line)? {
-        answer_line(rt, alloc, &mut commands, session, &mut line, pending)?;
+        answer_line(rt, commands, session, &mut line, pending)?;
         write_before_wait(&reader, writer, pending)?;
     }
     Ok(())

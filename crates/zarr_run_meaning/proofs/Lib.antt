@@ -34,3 +34,4 @@ pub mod KeptTight
 pub mod BoxSteps
 pub mod BoxOrders
 pub mod BoxRuns
+pub mod Workers

@@ -12,3 +12,4 @@ pub mod Laws
 pub mod Rewrites
 pub mod Tight
 pub mod BoxLaws
+pub mod Workers

@@ -9,6 +9,7 @@ ghost use Rattle.zarr_run_meaning.specs.Rewrites.{RunsKeepCanon, SoundRunsKeepCa
 ghost use Rattle.zarr_run_meaning.specs.Tight.{NoChunksAreTight, BeginsTight, CanonTight, StepsKeepTight, CompactsExactly};
 ghost use Rattle.zarr_run_meaning.specs.Tight.{RunsKeepTight, OwnedRunsTight, RunsTight};
 ghost use Rattle.zarr_run_meaning.specs.Laws.{SoundAlone, BeginsAlone, StepsKeepSound, AloneUndamaged, RunsPrint, ReadsPrint};
+ghost use Rattle.zarr_run_meaning.specs.Workers.{WorkersAlike};
 
 /// Whatever is stored, there is a table of the cells that it shows.
 pub fn table_found()
@@ -311,4 +312,10 @@ pub fn owned_runs_tight()
 /// for row-major order is tight at the end of the run.
 pub fn runs_tight()
     ensures { RunsTight }
+{}
+
+/// Workers change nothing that is answered or stored: a step of a command is one of the same
+/// command with workers, or without.
+pub fn workers_alike()
+    ensures { WorkersAlike }
 {}

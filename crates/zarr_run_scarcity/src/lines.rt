@@ -58,23 +58,24 @@ fn are_as_stated(answers: &[u8]) -> bool {
     answers.len() <= ANSWERS.len()
 }
 
-/// Runs lines in a new session.
+/// Runs lines in a new session, with workers or without.
 fn answer_lines<R: AllocGlobal + Threads + Sync>(
     rt: &R,
     text: &[u8],
     answers: &mut Vec<u8>,
+    workers: bool,
 ) -> Result<(), LinesFault> {
     let alloc = rt.alloc();
     let mut session = Session::<MemoryStore, ReverseCodec>::new(alloc, MemoryStore::new(alloc));
-    run_lines(rt, alloc, &mut session, text, answers)
+    run_lines(rt, alloc, &mut session, text, answers, workers)
 }
 
 /// The lines. The writer takes memory too, so it can fail.
-fn run_text<R: AllocGlobal + Threads + Sync>(rt: &R) -> Result<(), Stop> {
+fn run_text<R: AllocGlobal + Threads + Sync>(rt: &R, workers: bool) -> Result<(), Stop> {
     let alloc = rt.alloc();
     let text = text(alloc)?;
     let mut answers = Vec::new(alloc);
-    let end = answer_lines(rt, text.as_slice(), &mut answers);
+    let end = answer_lines(rt, text.as_slice(), &mut answers, workers);
     expect(!matches!(end, Err(LinesFault::Read)) && are_as_stated(answers.as_slice()))
 }
 
@@ -82,10 +83,10 @@ fn run_text<R: AllocGlobal + Threads + Sync>(rt: &R) -> Result<(), Stop> {
 const LISTED: usize = 4;
 
 /// The commands of the first lines.
-fn commands(alloc: Global) -> Result<Vec<Command>, Stop> {
+fn commands(alloc: Global, workers: bool) -> Result<Vec<Command>, Stop> {
     let mut commands = Vec::new(alloc);
     for line in PLAIN.lines.iter().take(LISTED) {
-        if commands.push(command(alloc, line.text)?).is_err() {
+        if commands.push(command(alloc, line.text, workers)?).is_err() {
             return Err(Stop::Short);
         }
     }
@@ -124,9 +125,9 @@ fn expect_replies(replies: &[Reply], store: &mut MemoryStore) -> Result<(), Stop
 
 /// The list. Where memory for the replies runs out, the store comes back empty, and the list is run
 /// once more.
-fn run_list<R: AllocGlobal + Threads + Sync>(rt: &R) -> Result<(), Stop> {
+fn run_list<R: AllocGlobal + Threads + Sync>(rt: &R, workers: bool) -> Result<(), Stop> {
     let alloc = rt.alloc();
-    let commands = commands(alloc)?;
+    let commands = commands(alloc, workers)?;
     match reply_all(rt, MemoryStore::new(alloc), commands.as_slice()) {
         Ok((replies, mut store)) => expect_replies(replies.as_slice(), &mut store),
         Err(mut store) => {
@@ -139,8 +140,8 @@ fn run_list<R: AllocGlobal + Threads + Sync>(rt: &R) -> Result<(), Stop> {
     }
 }
 
-/// The lines and the list.
-pub(crate) fn run<R: AllocGlobal + Threads + Sync>(rt: &R) -> Result<(), Stop> {
-    run_text(rt)?;
-    run_list(rt)
+/// The lines and the list, with workers or without.
+pub(crate) fn run<R: AllocGlobal + Threads + Sync>(rt: &R, workers: bool) -> Result<(), Stop> {
+    run_text(rt, workers)?;
+    run_list(rt, workers)
 }

@@ -2,7 +2,8 @@
 //!
 //! The first byte of standard input names the script: `s` for a session's commands, `r` for these
 //! over stores that refuse each of their calls in turn, `p` and `q` the same at arrays in shards,
-//! `v` and `w` at arrays of version 2, `l` for a session's lines.
+//! `v` and `w` at arrays of version 2, `l` for a session's lines. A capital letter names the same
+//! with workers.
 //! It prints `as stated` if each answer is the one with ample memory and an honest store, which is
 //! typed in here, or says that memory ran out or the store refused, and has made just the change
 //! that it says.
@@ -24,14 +25,15 @@ use zarr_scarcity_scripts::{Stop, read_letter, tell};
 
 /// Runs the script with this letter.
 fn run<R: AllocGlobal + Threads + Sync>(rt: &R, letter: u8) -> Result<(), Stop> {
-    match letter {
-        b's' => steps::run(rt, PLAIN),
-        b'r' => steps::run_over_refusals(rt, PLAIN),
-        b'p' => steps::run(rt, SHARDS),
-        b'q' => steps::run_over_refusals(rt, SHARDS),
-        b'v' => steps::run(rt, OLDER),
-        b'w' => steps::run_over_refusals(rt, OLDER),
-        b'l' => lines::run(rt),
+    let workers = letter.is_ascii_uppercase();
+    match letter.to_ascii_lowercase() {
+        b's' => steps::run(rt, PLAIN.with_workers(workers)),
+        b'r' => steps::run_over_refusals(rt, PLAIN.with_workers(workers)),
+        b'p' => steps::run(rt, SHARDS.with_workers(workers)),
+        b'q' => steps::run_over_refusals(rt, SHARDS.with_workers(workers)),
+        b'v' => steps::run(rt, OLDER.with_workers(workers)),
+        b'w' => steps::run_over_refusals(rt, OLDER.with_workers(workers)),
+        b'l' => lines::run(rt, workers),
         _ => Err(Stop::Other),
     }
 }

@@ -6,6 +6,7 @@ use crate::tables::Array;
 
 /// Arrays of version 2. A refused create may leave attributes.
 pub(crate) const OLDER: Script = Script {
+    workers: false,
     lines: &LINES,
     lines_after: &[REOPEN_ROW, REOPEN_SQUARE, READ_SQUARE, READ_ROW],
     read_square: READ_SQUARE,

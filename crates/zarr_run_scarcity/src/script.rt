@@ -2,7 +2,7 @@
 
 use crate::tables::{Array, Cells, Keys};
 use std::alloc::Global;
-use zarr_run::{ArrayBytes, Cause, Command, Reply, read_command};
+use zarr_run::{ArrayBytes, Cause, Command, CommandReader, Reply};
 use zarr_scarcity_scripts::Stop;
 
 /// What a line asks of its array.
@@ -27,9 +27,10 @@ pub(crate) struct Line {
 }
 
 /// The lines of a script, those that open both arrays again and read them, and what reads each
-/// whole.
+/// whole; and whether all of these have workers.
 #[derive(Clone, Copy)]
 pub(crate) struct Script {
+    pub workers: bool,
     pub lines: &'static [Line],
     pub lines_after: &'static [Line],
     pub read_square: Line,
@@ -37,6 +38,15 @@ pub(crate) struct Script {
     /// The document keys and chunk keys of both arrays.
     pub square: Names,
     pub row: Names,
+}
+
+impl Script {
+    /// The same script, with workers or without.
+    pub(crate) fn with_workers(self, workers: bool) -> Script {
+        let mut script = self;
+        script.workers = workers;
+        script
+    }
 }
 
 /// The keys that an array may have. That of its attributes, which a document of version 2 has, may
@@ -50,6 +60,7 @@ pub(crate) struct Names {
 
 /// Arrays without shards.
 pub(crate) const PLAIN: Script = Script {
+    workers: false,
     lines: &LINES,
     lines_after: &LINES_AFTER,
     read_square: READ_SQUARE,
@@ -237,9 +248,9 @@ pub(crate) const LINES: [Line; 21] = [
 /// Opens both arrays again in another session, and reads them.
 const LINES_AFTER: [Line; 4] = [REOPEN_ROW, REOPEN_SQUARE, READ_SQUARE, READ_ROW];
 
-/// The command of a line.
-pub(crate) fn command(alloc: Global, text: &str) -> Result<Command, Stop> {
-    match read_command(alloc, text.as_bytes())? {
+/// The command of a line, with workers or without.
+pub(crate) fn command(alloc: Global, text: &str, workers: bool) -> Result<Command, Stop> {
+    match CommandReader::new(alloc, workers).read(text.as_bytes())? {
         Some(command) => Ok(command),
         None => Err(Stop::Other),
     }

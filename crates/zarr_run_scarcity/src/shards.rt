@@ -6,6 +6,7 @@ use crate::tables::Array;
 
 /// Arrays in shards. A chunk that is all fill loses its key also where a part of it is written.
 pub(crate) const SHARDS: Script = Script {
+    workers: false,
     lines: &LINES,
     lines_after: &[REOPEN_ROW, REOPEN_SQUARE, READ_SQUARE, READ_ROW],
     read_square: READ_SQUARE,

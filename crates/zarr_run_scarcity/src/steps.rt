@@ -143,8 +143,8 @@ fn begin(alloc: Global, kind: CallKind, number: u64) -> CheckedSession {
 
 /// How a script is run.
 fn made_plan(alloc: Global, script: Script, stops: bool) -> Result<Plan, Stop> {
-    let square = command(alloc, script.read_square.text)?;
-    let row = command(alloc, script.read_row.text)?;
+    let square = command(alloc, script.read_square.text, script.workers)?;
+    let row = command(alloc, script.read_row.text, script.workers)?;
     Ok(Plan {
         script,
         square,
@@ -160,7 +160,7 @@ fn run_line<R: AllocGlobal + Threads + Sync>(
     plan: &Plan,
     line: Line,
 ) -> Result<bool, Stop> {
-    let command = command(rt.alloc(), line.text)?;
+    let command = command(rt.alloc(), line.text, plan.script.workers)?;
     checked.step(rt, plan, line, &command)
 }
 

@@ -23,7 +23,7 @@ use zarr_array_storage::{MemoryStore, StorageError, WritableStorageTraits};
 use zarr_codecs_reverse::ReverseCodec;
 use zarr_run_lines::run_lines;
 use zarr_run_session::Session;
-use zarr_run_words::{WordsFault, read_words};
+use zarr_run_words::{Words, WordsFault, read_words};
 
 /// The status where the words of the command line are wrong.
 const USAGE: u8 = 2;
@@ -87,7 +87,7 @@ pub fn run_words<
         (takes program (map string_bytes words.now) ≡ false) × (writer.new ≡ writer.old) }
 {
     match read_words(rt.alloc(), words) {
-        Ok(asked) => match run_root(rt, asked.root, reader, writer) {
+        Ok(asked) => match run_root(rt, asked, reader, writer) {
             Ok(()) => ExitCode::SUCCESS,
             Err(fault) => fail(errors, fault),
         },
@@ -118,20 +118,21 @@ fn end_by_words<W: Write, E: Write>(fault: WordsFault, writer: &mut W, errors: &
     }
 }
 
-/// Runs lines over the store in a folder, or over one in memory where no folder is named.
+/// Runs lines as words ask for: over the store in a folder, or over one in memory where none is
+/// named.
 fn run_root<H: Files + AllocGlobal + Threads + Clone + Drop + Sync, R: Read + Drop, W: Write>(
     rt: &H,
-    root: Option<&str>,
+    words: Words<'_>,
     reader: R,
     writer: &mut W,
 ) -> Result<(), Fault>
-    ensures { root.entry ≡ None → OnOk result
+    ensures { words.entry.root ≡ None → OnOk result
         (RunsAllFrom (reads_reversing, true) (world_over empty 0) (R.remaining reader)
         (output (W.contents writer.old) (W.contents writer.new))) }
 {
-    match root {
-        Some(dir) => run_folder(rt, dir, reader, writer),
-        None => run_memory(rt, reader, writer),
+    match words.root {
+        Some(dir) => run_folder(rt, dir, reader, writer, words.workers),
+        None => run_memory(rt, reader, writer, words.workers),
     }
 }
 
@@ -140,12 +141,13 @@ fn run_folder<H: Files + AllocGlobal + Threads + Clone + Drop + Sync, R: Read + 
     dir: &str,
     reader: R,
     writer: &mut W,
+    workers: bool,
 ) -> Result<(), Fault> {
     let Ok(handle) = rt.clone() else {
         return Err(Fault::Memory);
     };
     match FolderStore::open(handle, dir) {
-        Ok(store) => run_store(rt, rt.alloc(), store, reader, writer),
+        Ok(store) => run_store(rt, rt.alloc(), store, reader, writer, workers),
         Err(StorageError::Memory) => Err(Fault::Memory),
         Err(_) => Err(Fault::Store),
     }
@@ -155,22 +157,31 @@ fn run_memory<H: AllocGlobal + Threads + Sync, R: Read + Drop, W: Write>(
     rt: &H,
     reader: R,
     writer: &mut W,
+    workers: bool,
 ) -> Result<(), Fault>
     ensures { OnOk result
         (RunsAllFrom (reads_reversing, true) (world_over empty 0) (R.remaining reader)
         (output (W.contents writer.old) (W.contents writer.new))) }
 {
-    run_store(rt, rt.alloc(), MemoryStore::new(rt.alloc()), reader, writer)
+    run_store(
+        rt,
+        rt.alloc(),
+        MemoryStore::new(rt.alloc()),
+        reader,
+        writer,
+        workers,
+    )
 }
 
 /// Runs the lines of a reader in a session over a store, and writes a line of answer to each. The
-/// session holds no array yet.
+/// session holds no array yet. A line that doesn't say its option `workers` has this one.
 pub fn run_store<H: Threads + Sync, S: WritableStorageTraits + Drop, R: Read + Drop, W: Write>(
     rt: &H,
     alloc: Global,
     store: S,
     reader: R,
     writer: &mut W,
+    workers: bool,
 ) -> Result<(), Fault>
     ensures { IsTrue (S.is_honest store) → OnOk result
         (RunsAllFrom (reads_reversing, S.supports_set_partial)
@@ -178,5 +189,5 @@ pub fn run_store<H: Threads + Sync, S: WritableStorageTraits + Drop, R: Read + D
         (R.remaining reader) (output (W.contents writer.old) (W.contents writer.new))) }
 {
     let mut session = Session::<S, ReverseCodec>::new(alloc, store);
-    Ok(run_lines(rt, alloc, &mut session, reader, writer)?)
+    Ok(run_lines(rt, alloc, &mut session, reader, writer, workers)?)
 }

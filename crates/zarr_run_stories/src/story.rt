@@ -11,24 +11,34 @@ use zarr_run::{
     run_lines,
 };
 
-/// Reads the lines of a store, through the empty line that ends them.
-fn read_store<R: BufRead + Drop>(
-    alloc: Global,
-    reader: &mut R,
-) -> Result<RefusingStore<MemoryStore>> {
+/// What stands before the commands: a store, and the option `workers` of those that don't say it.
+#[derive(Drop)]
+struct Opening {
+    store: RefusingStore<MemoryStore>,
+    workers: bool,
+}
+
+/// Reads the lines before the commands, through the empty line that ends them.
+fn read_opening<R: BufRead + Drop>(alloc: Global, reader: &mut R) -> Result<Opening> {
     let mut store = MemoryStore::new(alloc);
     let mut refused = NO_CALL;
+    let mut workers = false;
     for line in reader.lines(alloc) {
         let line = line?;
         if line.is_empty() {
             break;
+        }
+        if line.as_str() == "workers" {
+            workers = true;
+            continue;
         }
         match refused_call(line.as_str())? {
             Some(call) => refused = call,
             None => put_entry(alloc, &mut store, line.as_str())?,
         }
     }
-    Ok(RefusingStore::new(store, refused.kind, refused.number))
+    let store = RefusingStore::new(store, refused.kind, refused.number);
+    Ok(Opening { store, workers })
 }
 
 /// The lines of a store's keys.
@@ -51,9 +61,9 @@ pub(crate) fn run_story<H: AllocGlobal + Threads + Sync, R: Read + Drop, W: Writ
 ) -> Result<()> {
     let alloc = rt.alloc();
     let mut reader = BufReader::new(alloc, reader)?;
-    let store = read_store(alloc, &mut reader)?;
+    let Opening { store, workers } = read_opening(alloc, &mut reader)?;
     let mut session = Session::<RefusingStore<MemoryStore>, ReverseCodec>::new(alloc, store);
-    if let Err(fault) = run_lines(rt, alloc, &mut session, reader, writer) {
+    if let Err(fault) = run_lines(rt, alloc, &mut session, reader, writer, workers) {
         bail!("the commands have not been run to their end: {fault:?}");
     }
     let mut store = session.close().into_inner();

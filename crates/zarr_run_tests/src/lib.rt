@@ -1,5 +1,5 @@
-//! Tests of `zarr_run` that need code: typed commands, streams that fail, and what a line says that
-//! no answer shows. Whole sessions are in the stories.
+//! Tests of `zarr_run` that need code: typed commands, streams that fail, what a line says that no
+//! answer shows, and that workers are several threads. Whole sessions are in the stories.
 #![tactic(auto)]
 
 #[cfg(test)]
@@ -16,3 +16,7 @@ mod sessions;
 mod streams;
 #[cfg(test)]
 mod test_store;
+#[cfg(test)]
+mod waiting_codec;
+#[cfg(test)]
+mod workers;

@@ -107,6 +107,17 @@ pub(crate) fn has(alloc: Global, store: &mut MemoryStore, key: &str, want: &[u8]
     }
 }
 
+/// Whether a store in memory takes this value at a key.
+pub(crate) fn put(alloc: Global, store: &mut MemoryStore, key: &str, value: &[u8]) -> bool {
+    let Ok(text) = String::from_str(alloc, key) else {
+        return false;
+    };
+    match StoreKey::new(text) {
+        Ok(key) => store.set(&key, value).is_ok(),
+        Err(_) => false,
+    }
+}
+
 /// Whether a store has so many keys.
 pub(crate) fn has_keys(store: &mut MemoryStore, count: usize) -> bool {
     match store.list() {

@@ -10,7 +10,7 @@ use zarr_run::{LinesFault, run_lines};
 fn answers<R: AllocGlobal + Threads + Sync>(rt: &R, input: &[u8]) -> Option<Vec<u8>> {
     let alloc = rt.alloc();
     let (mut session, mut output) = (new_session(alloc), Vec::new(alloc));
-    match run_lines(rt, alloc, &mut session, input, &mut output) {
+    match run_lines(rt, alloc, &mut session, input, &mut output, false) {
         Ok(()) => Some(output),
         Err(_) => None,
     }
@@ -111,7 +111,7 @@ fn run<R: AllocGlobal + Threads + Sync>(
     };
     let alloc = rt.alloc();
     let mut session = new_session(alloc);
-    let ran = run_lines(rt, alloc, &mut session, reader, &mut writer);
+    let ran = run_lines(rt, alloc, &mut session, reader, &mut writer, false);
     (ran, answered.get())
 }
 

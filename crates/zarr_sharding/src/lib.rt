@@ -30,7 +30,7 @@ pub use zarr_sharding_codec::{
 pub use zarr_sharding_configurations::ShardingCodecConfiguration;
 pub use zarr_sharding_decoder::{OpenedIndex, ShardingPartialDecoder, open_shard};
 pub use zarr_sharding_index::{
-    FetchedIndex, IndexLayout, PresentPair, PresentPairs, ShardIndex, ShardingIndexLocation,
+    FetchedIndex, IndexLayout, PresentPair, PresentPairs, ShardingIndexLocation,
 };
 pub use zarr_sharding_inner::{
     ChainOfMetadata, IndexChainOfMetadata, IndexCodec, InnerCodec, ShardingCodecOptions,

@@ -7,7 +7,7 @@ use Rattle.zarr_run_commands.proofs.options.read_members.Given as goal
 
 abbrev pub invariant-members : goal.invariant-members
 invariant-members l =
-    (n : ℕ) × (ms : Members) × (options_of ms ≡ Some l.options) × (length l.reader ≤ n)
+    (n : ℕ) × (ms : Members) × (options_of l.fn.workers ms ≡ Some l.options) × (length l.reader ≤ n)
     × (converted (λ js. of_members js no_members) (members (value 125) (length l.initial.reader) l.initial.reader) ≡ converted (λ js. of_members js ms) (members (value 125) n l.reader))
     × (length l.reader ≤ length l.initial.reader)
 

@@ -15,4 +15,4 @@ returns-clause-read c =
     let found = c.in_ok-options.ensures.read in
     let first : c.args.reader.now ≡ Token.begin_object ∷ ts = grind arith in
     let opened = ap (converted of_json) (ap (value 126) first ∙ value-begin_object 126 ts (omega arith)) ∙ converted-object (members (value 125) (length ts) ts) in
-    said options_in (value 126 c.args.reader.now) (object found.0) c.read_members.new.reader c.in_ok-options.options (opened ∙ ap (parse_map object) found.2) found.1
+    said (options_in c.args.workers) (value 126 c.args.reader.now) (object found.0) c.read_members.new.reader c.in_ok-options.options (opened ∙ ap (parse_map object) found.2) found.1

@@ -7,7 +7,7 @@ use Rattle.zarr_run_commands.proofs.Turns.{member_read, members_over}
 use Rattle.zarr_run_commands.proofs.tokens.read_members.Goals as goal
 
 pub members-init : goal.members-init
-members-init c = (length c.args.reader.now, no_members, is_empty_line, omega arith, refl, omega arith)
+members-init c = (length c.args.reader.now, no_members, is_empty_line c.args.workers, omega arith, refl, omega arith)
 
 pub members-preserved : goal.members-preserved
 members-preserved c =

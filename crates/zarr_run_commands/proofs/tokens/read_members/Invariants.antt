@@ -7,7 +7,7 @@ use Rattle.zarr_run_commands.proofs.tokens.read_members.Given as goal
 
 abbrev pub invariant-members : goal.invariant-members
 invariant-members l =
-    (n : ℕ) × (ms : Members) × IsLine ms l.line × (length l.reader ≤ n)
+    (n : ℕ) × (ms : Members) × IsLine l.fn.workers ms l.line × (length l.reader ≤ n)
     × (converted (λ js. of_members js no_members) (members (value 126) (length l.initial.reader) l.initial.reader) ≡ converted (λ js. of_members js ms) (members (value 126) n l.reader))
     × (length l.reader ≤ length l.initial.reader)
 

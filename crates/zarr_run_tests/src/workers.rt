@@ -1,0 +1,219 @@
+//! Boxes read with workers: by several threads, with the answers that are given without them.
+
+use crate::samples::{CREATE, DONE, REOPEN, WRITE, has, has_keys, put, talks};
+use crate::test_store::TestStore;
+use crate::waiting_codec::WaitingCodec;
+use serde_json::Value;
+use std::alloc::{AllocError, Global};
+use std::thread::Threads;
+use zarr_array_core::{ArrayCore, ChunkRooms};
+use zarr_array_metadata::{ArrayDocument, read_document};
+use zarr_codecs::{ArrayToBytesCodec, BytesCodec, CodecChain};
+use zarr_grids_keys::NodePath;
+use zarr_run::{
+    ArrayBytes, ArraySubset, CodecOptions, CommandCells, MemoryStore, ReverseCodec, Session,
+    run_lines,
+};
+use zarr_run_boxes::{CellWrite, read_box, write_box};
+
+/// An array of 8,192 cells, each in a chunk of its own.
+const DOCUMENT: &str =
+    r#"{"zarr_format":3,"node_type":"array","shape":[8192],"data_type":"uint8","chunk_grid":{"name":"regular","configuration":{"chunk_shape":[1]}},"chunk_key_encoding":"default","fill_value":0,"codecs":["bytes"]}"#;
+
+/// The array, with codecs whose decoding waits for so many turns at most.
+fn waiting_array(alloc: Global, turns: u64) -> Option<ArrayCore<CodecChain<WaitingCodec>>> {
+    let path = NodePath::new(String::from_str(alloc, "/a").ok()?).ok()?;
+    let tree = Value::from_str(alloc, DOCUMENT).ok()?;
+    let document = read_document::<ReverseCodec>(alloc, &tree).ok()?;
+    let ArrayDocument {
+        grid,
+        keys,
+        elements,
+        ..
+    } = document;
+    let waiting = vec![in alloc; WaitingCodec::new(turns)].ok()?;
+    let bytes = ArrayToBytesCodec::Bytes(BytesCodec::new(None));
+    let codecs = CodecChain::new(Vec::new(alloc), bytes, waiting);
+    Some(ArrayCore::new(path, grid, keys, elements, codecs))
+}
+
+/// Writes 1 into each cell, and reads all with these options. Gives how many pieces waited in vain,
+/// where the cells come back.
+fn missed<R: AllocGlobal + Threads + Sync>(rt: &R, turns: u64, workers: bool) -> Option<u64> {
+    let alloc = rt.alloc();
+    let array = waiting_array(alloc, turns)?;
+    let (mut store, mut rooms) = (MemoryStore::new(alloc), ChunkRooms::new(alloc));
+    let region = ArraySubset::new_with_ranges(alloc, &[0..8192]).ok()?;
+    let options = &CodecOptions::default().with_workers(workers);
+    let cells = &CommandCells::Bytes(ArrayBytes::Fixed(vec![in alloc; 1u8; 8192].ok()?));
+    let write = CellWrite { cells, options };
+    write_box(rt, &mut rooms, &array, &mut store, &region, write).ok()?;
+    let read = read_box(rt, &mut rooms, &array, &mut store, &region, options).ok()?;
+    if !are_ones(&read) {
+        return None;
+    }
+    let codec = array.codecs().bytes_to_bytes_codecs().first()?;
+    Some(codec.missed())
+}
+
+/// Whether these are 8,192 cells, each 1.
+fn are_ones(read: &ArrayBytes) -> bool {
+    match read {
+        ArrayBytes::Fixed(bytes) => bytes.len() == 8192 && bytes.iter().all(|byte| *byte == 1),
+        _ => false,
+    }
+}
+
+#[test]
+fn chunks_are_decoded_by_several_threads(rt: HostRuntime) {
+    assert!(rt; matches!(missed(&rt, 1 << 26, true), Some(0)));
+}
+
+#[test]
+fn without_workers_chunks_are_decoded_one_after_another(rt: HostRuntime) {
+    assert!(rt; matches!(missed(&rt, 1 << 10, false), Some(1)));
+}
+
+/// Reads the four chunks of `/a`, whose first is damaged; whether lines that don't say `workers`
+/// have it; and how many values are fetched as a whole: with workers all, else none, since `bytes`
+/// reads by ranges.
+const READS: [(&str, bool, u64); 7] = [
+    (
+        r#"{"op":"read_box","path":"/a","box":[[0,4],[0,4]]}"#,
+        false,
+        0,
+    ),
+    (
+        r#"{"op":"read_box","path":"/a","box":[[0,4],[0,4]]}"#,
+        true,
+        4,
+    ),
+    (
+        r#"{"op":"read_box","path":"/a","box":[[0,4],[0,4]],"options":{"empty":true}}"#,
+        true,
+        4,
+    ),
+    (
+        r#"{"op":"read_box","path":"/a","box":[[0,4],[0,4]],"options":{"workers":false}}"#,
+        true,
+        0,
+    ),
+    (
+        r#"{"op":"read_box","path":"/a","box":[[0,4],[0,4]],"options":{"workers":true}}"#,
+        false,
+        4,
+    ),
+    (
+        r#"{"op":"read_box","path":"\/a","box":[[0,4],[0,4]]}"#,
+        true,
+        4,
+    ),
+    (
+        r#"{"op":"read_box","path":"\/a","box":[[0,4],[0,4]],"options":{"workers":false}}"#,
+        true,
+        0,
+    ),
+];
+
+const ANSWERS: &[u8] = b"{\"done\":true}\n{\"applied\":0,\"refused\":\"Damage\"}\n";
+
+/// A store that holds the array at `/a`, with a value in the first chunk that is too short.
+fn damaged<R: AllocGlobal + Threads + Sync>(rt: &R) -> Result<Option<TestStore<true>>, AllocError> {
+    let alloc = rt.alloc();
+    let store: TestStore<true> = TestStore {
+        inner: MemoryStore::new(alloc),
+        calls_before: u64::MAX,
+        fetches: 0,
+        patches: 0,
+    };
+    let mut session: Session<TestStore<true>, ReverseCodec> = Session::new(alloc, store);
+    let is_made = talks(rt, &mut session, &[(CREATE, DONE), (WRITE, DONE)])?;
+    let mut store = session.close();
+    let is_damaged = put(alloc, &mut store.inner, "a/c/0/0", &[1]);
+    store.fetches = 0;
+    Ok(if is_made && is_damaged {
+        Some(store)
+    } else {
+        None
+    })
+}
+
+/// How many values a line fetches of that store, where it is refused for damage.
+fn fetched<R: AllocGlobal + Threads + Sync>(
+    rt: &R,
+    line: &str,
+    workers: bool,
+) -> Result<Option<u64>, AllocError> {
+    let alloc = rt.alloc();
+    let Some(store) = damaged(rt)? else {
+        return Ok(None);
+    };
+    let mut session: Session<TestStore<true>, ReverseCodec> = Session::new(alloc, store);
+    let text = format!(in alloc; "{REOPEN}\n{line}\n")?;
+    let mut output = Vec::new(alloc);
+    let ran = run_lines(
+        rt,
+        alloc,
+        &mut session,
+        text.as_bytes(),
+        &mut output,
+        workers,
+    );
+    let is_answered = ran.is_ok() && output.as_slice() == ANSWERS;
+    Ok(is_answered.then_some(session.close().fetches))
+}
+
+#[test]
+fn a_line_that_does_not_say_workers_has_those_of_the_program(rt: HostRuntime) {
+    for (line, workers, count) in READS {
+        let found = fetched(&rt, line, workers);
+        assert!(rt;
+            matches!(found, Ok(Some(n)) if n == count),
+            "{workers} {line}"
+        );
+    }
+}
+
+/// An array in three chunks, of which there is no memory to decode the one in the middle, until
+/// other cells are written there.
+const SHORT: [(&str, &str); 6] = [
+    (
+        r#"{"op":"create","path":"/a","document":{"zarr_format":3,"node_type":"array","shape":[6],"data_type":"uint8","chunk_grid":{"name":"regular","configuration":{"chunk_shape":[2]}},"chunk_key_encoding":"default","fill_value":0,"codecs":["bytes","x-wait"]}}"#,
+        DONE,
+    ),
+    (
+        r#"{"op":"write_box","path":"/a","box":[[0,6]],"cells":[1,2,9,9,5,6]}"#,
+        DONE,
+    ),
+    (
+        r#"{"op":"read_box","path":"/a","box":[[0,6]],"options":{"workers":true}}"#,
+        r#"{"applied":0,"refused":"Memory"}"#,
+    ),
+    (
+        r#"{"op":"read_box","path":"/a","box":[[4,6]],"options":{"workers":true}}"#,
+        r#"{"cells":[5,6]}"#,
+    ),
+    (
+        r#"{"op":"write_chunk","path":"/a","chunk":[1],"cells":[3,4]}"#,
+        DONE,
+    ),
+    (
+        r#"{"op":"read_box","path":"/a","box":[[0,6]],"options":{"workers":true}}"#,
+        r#"{"cells":[1,2,3,4,5,6]}"#,
+    ),
+];
+
+/// Whether a read that has no memory in one of its threads leaves all as it was.
+fn stays<R: AllocGlobal + Threads + Sync>(rt: &R) -> Result<bool, AllocError> {
+    let alloc = rt.alloc();
+    let store = MemoryStore::new(alloc);
+    let mut session: Session<MemoryStore, WaitingCodec> = Session::new(alloc, store);
+    let is_answered = talks(rt, &mut session, &SHORT)?;
+    let mut store = session.close();
+    Ok(is_answered && has_keys(&mut store, 4) && has(alloc, &mut store, "a/c/0", &[1, 2]))
+}
+
+#[test]
+fn want_of_memory_in_a_thread_leaves_the_session_as_it_was(rt: HostRuntime) {
+    assert!(rt; matches!(stays(&rt), Ok(true)));
+}
