@@ -161,6 +161,8 @@ impl<'a, S: WritableStorageTraits> BytesPartialEncoderTraits for StoreTarget<'a,
 
     ghost unwritten = { λ _ _ f. f.4 };
 
+    ghost still_ranges = { λ _ _ _. refl };
+
     ghost still_honest = { λ _ _ f. f.2 };
 
     ghost writes_on = { λ a b c f h. (

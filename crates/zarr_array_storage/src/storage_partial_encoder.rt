@@ -233,6 +233,8 @@ impl<'a, S: WritableStorageTraits> BytesPartialEncoderTraits for StoragePartialE
 
     ghost unwritten = { λ _ _ f. f.0.4 };
 
+    ghost still_ranges = { λ _ _ _. refl };
+
     ghost still_honest = { λ _ _ f. f.0.2 };
 
     ghost writes_on = { λ a b c f h. (

@@ -4,7 +4,7 @@ use Rattle.std.specs.List.{list_all}
 use Rattle.zarr_grids_boxes.specs.Boxes.{product}
 use Rattle.zarr_codecs_meaning.specs.Chains.{Chain, Location}
 use Rattle.zarr_codecs_meaning.specs.Encoding.{Pair, index_size, pair_cells}
-use Rattle.zarr_codecs_meaning.specs.Fits.{fits, is_lossless}
+use Rattle.zarr_codecs_meaning.specs.Fits.{fits}
 use Rattle.zarr_codecs_meaning.specs.Payloads.{Payload}
 use Rattle.zarr_codecs_meaning.specs.Refusals.{CodecRefuses, PassesIndex}
 use Rattle.zarr_codecs_meaning.specs.Types.{Cell, Elements, uint64, zero_filled}
@@ -12,8 +12,9 @@ use Rattle.zarr_codecs_arrays.specs.Outcomes.{IsValid}
 use Rattle.zarr_codecs_arrays.specs.declared.error.CodecError.{CodecError}
 use Rattle.zarr_codecs_arrays.specs.declared.error.CodecError.TheVariants as error
 use Rattle.zarr_codecs_traits.specs.Indexers.{Asked, are_inside, numbers_asked}
-use Rattle.zarr_codecs_traits.specs.Arrays.{coded, update_of}
-use Rattle.zarr_codecs_traits.specs.PartWriting.{IsEncodedInto, IsRefusedInto, PassesLength}
+use Rattle.zarr_codecs_traits.specs.Arrays.{Coded, Update}
+use Rattle.zarr_codecs_traits.specs.PartWriting.{EncodesInto, IsPlaced, LacksRoom}
+use Rattle.zarr_codecs_traits.specs.ShardWrites.{LeavesParts}
 use Rattle.zarr_codecs_traits.specs.Writes.{accepted_after}
 use Rattle.zarr_sharding_changes.specs.Changes.{Change, appended, pairs_after}
 use Rattle.zarr_sharding_state.specs.Held.{shard_length}
@@ -31,14 +32,10 @@ pub record IsTestedPart (chain : Chain) (elements : Elements) (shape : List ℕ)
   pub below : list_all (λ n. nat_lt n (product shape)) numbers ≡ true
   pub size_is : size ≡ index_length chain shape
 
--- if the chain keeps every bit, the new slices of a part, put behind what is stored, would make 2^63 bytes or more
-abbrev pub LacksRoom : Chain → Elements → List ℕ → Asked → Payload → Option (List ℕ) → Type 0
-LacksRoom chain elements shape asked payload old = is_lossless chain elements.type ≡ true → IsRefusedInto (coded chain elements shape) (update_of asked payload old) (PassesLength chain elements shape old)
-
--- new cells were put at the places that are asked for; or there is no room for them, and nothing was written
-abbrev pub AppendsPart : Chain → Bool → Elements → List ℕ → Asked → Payload → Option (List ℕ) → Option (List ℕ) → Bool → Type 0
-AppendsPart chain exact elements shape asked payload old new written =
-    MatchBool written ((cells : List Cell) × IsEncodedInto (coded chain elements shape) exact (update_of asked payload old) cells new) ((new ≡ old) × LacksRoom chain elements shape asked payload old)
+-- new cells were put at the places that are asked for, and the parts that the write doesn't meet stay; or there is no room for the new slices behind what is stored, where each present slice lies in the data part, and nothing was written
+abbrev pub AppendsPart : Coded → Bool → Update → Option (List ℕ) → Bool → Type 0
+AppendsPart array exact update new written =
+    MatchBool written (EncodesInto array exact update new × LeavesParts array update new) ((new ≡ update.stored) × IsPlaced array.chain array.shape update.stored × LacksRoom array update)
 
 -- changes were written; or the shard would then have 2^63 bytes or more, and nothing was written
 abbrev pub AppendsChanges : Chain → Bool → Location → List ℕ → List Change → ℕ → List Pair → Option (List ℕ) → Option (List ℕ) → Bool → Type 0

@@ -20,13 +20,14 @@ pub struct TestedPart<'a> {
 }
 
 impl<I: ArrayToBytesCodecTraits, X: ArrayToBytesCodecTraits> ShardingCodec<I, X> {
-    ghost use Rattle.std.specs.Prelude.{◌≡◌, ◌+◌, ◌*◌, ◌<◌, ◌^◌, ℕ, List, Option, Some, true, length, nat_lt, unwrap_or, IsTrue, IfOk, OnErr, OnOk};
+    ghost use Rattle.std.specs.Prelude.{◌≡◌, ◌+◌, ◌*◌, ◌<◌, ◌≤◌, ◌^◌, ℕ, List, Option, Some, true, length, nat_lt, unwrap_or, IsTrue, IfOk, OnErr};
     ghost use Rattle.std.specs.List.{list_all};
     ghost use Rattle.zarr_codecs_arrays.specs.Views.{elements_of, payload_of};
     ghost use Rattle.zarr_codecs_meaning.specs.Encoding.{index_size};
     ghost use Rattle.zarr_codecs_traits.specs.Indexers.{asked_of, numbers_asked};
     ghost use Rattle.zarr_codecs_traits.specs.Arrays.{coded_part, update_part};
-    ghost use Rattle.zarr_codecs_traits.specs.PartWriting.{IsPlaced, NotEncodedInto};
+    ghost use Rattle.zarr_codecs_traits.specs.PartWriting.{NotEncodedInto};
+    ghost use Rattle.zarr_codecs_traits.specs.ShardWrites.{most_to_write};
     ghost use Rattle.zarr_codecs_traits.specs.Sources.{refused_after};
     ghost use Rattle.zarr_grids_boxes.specs.Boxes.{product};
     ghost use Rattle.zarr_sharding_changes.specs.Changes.{appended, pairs_after};
@@ -92,16 +93,11 @@ impl<I: ArrayToBytesCodecTraits, X: ArrayToBytesCodecTraits> ShardingCodec<I, X>
             (elements_of part.elements.now) part.shape.now (asked_of part.indexer)
             (payload_of tested.bytes.now) tested.size
             (numbers_asked part.shape.now (asked_of part.indexer)) }
-        ensures ok { IsTrue (E.is_honest source.old) → IfOk result
-            (AppendsPart (shard_chain I.meaning X.meaning self.now)
+        ensures ok { IsTrue (E.is_honest source.old) → IfOk result (AppendsPart
+            (coded_part (shard_chain I.meaning X.meaning self.now) part.entry)
             (makes_a_function I.is_function X.is_function self.now)
-            (elements_of part.entry.elements.now) part.entry.shape.now
-            (asked_of part.entry.indexer) (payload_of tested.entry.bytes.now)
-            (E.contents source.old)
+            (update_part part.entry tested.entry.bytes.now (E.contents source.old))
             (E.contents source.new)) }
-        ensures placed { IsTrue (E.is_honest source.old) → OnOk result
-            (IsPlaced (shard_chain I.meaning X.meaning self.now) part.entry.shape.now
-            (E.contents source.old)) }
         ensures err { IsTrue (E.is_honest source.old) →
             OnErr result (E.contents source.new ≡ E.contents source.old) }
         ensures cause { IsTrue (E.is_honest source.old) → NotEncodedInto
@@ -109,6 +105,10 @@ impl<I: ArrayToBytesCodecTraits, X: ArrayToBytesCodecTraits> ShardingCodec<I, X>
             (update_part part.entry tested.entry.bytes.now (E.contents source.old)) result }
         ensures refused { E.refused_calls source.new ≡
             refused_after (E.refused_calls source.old) result }
+        ensures given { IsTrue (E.is_honest source.old) → IsTrue (E.writes_ranges source.old) →
+            E.given_bytes source.new ≤ E.given_bytes source.old + most_to_write
+            (coded_part (shard_chain I.meaning X.meaning self.now) part.entry)
+            (update_part part.entry tested.entry.bytes.now (E.contents source.old)) }
         ensures accepted { E.accepted_writes source.new ≡
             accepted_by (E.accepted_writes source.old) result }
         ensures rewrites { E.rewrites source.old source.new }
@@ -171,6 +171,8 @@ impl<I: ArrayToBytesCodecTraits, X: ArrayToBytesCodecTraits> ShardingCodec<I, X>
             result }
         ensures refused { E.refused_calls source.new ≡
             refused_after (E.refused_calls source.old) result }
+        ensures given { IsTrue (E.writes_ranges source.old) →
+            E.given_bytes source.new ≡ E.given_bytes source.old }
         ensures accepted { E.accepted_writes source.new ≡
             accepted_by (E.accepted_writes source.old) result }
         ensures rewrites { E.rewrites source.old source.new }

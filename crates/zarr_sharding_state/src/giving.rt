@@ -67,6 +67,8 @@ impl KnownShard {
             (pairs_in self.old)) result }
         ensures refused { E.refused_calls source.new ≡
             refused_after (E.refused_calls source.old) result }
+        ensures given { IsTrue (E.writes_ranges source.old) →
+            E.given_bytes source.new ≡ E.given_bytes source.old }
         ensures accepted { E.accepted_writes source.new ≡
             accepted_after (E.accepted_writes source.old) result }
         ensures rewrites { E.rewrites source.old source.new }
@@ -126,6 +128,8 @@ impl KnownShard {
             (pairs_in self.old)) result }
         ensures refused { E.refused_calls source.new ≡
             refused_after (E.refused_calls source.old) result }
+        ensures given { IsTrue (E.writes_ranges source.old) →
+            E.given_bytes source.new ≡ E.given_bytes source.old }
         ensures accepted { E.accepted_writes source.new ≡
             accepted_after (E.accepted_writes source.old) result }
         ensures rewrites { E.rewrites source.old source.new }
@@ -178,6 +182,8 @@ impl KnownShard {
             (pairs_in self.now) result }
         ensures refused { E.refused_calls source.new ≡
             refused_after (E.refused_calls source.old) result }
+        ensures given { IsTrue (E.writes_ranges source.old) →
+            E.given_bytes source.new ≡ E.given_bytes source.old }
         ensures accepted { E.accepted_writes source.new ≡
             accepted_after (E.accepted_writes source.old) result }
         ensures rewrites { E.rewrites source.old source.new }

@@ -31,7 +31,7 @@ impl KnownShard {
     ghost use Rattle.std.specs.List.{list_all};
     ghost use Rattle.zarr_codecs_meaning.specs.Decoding.{is_absent};
     ghost use Rattle.zarr_codecs_meaning.specs.Encoding.{absent_pair, base_of, index_size};
-    ghost use Rattle.zarr_codecs_traits.specs.Sources.{refused_after};
+    ghost use Rattle.zarr_codecs_traits.specs.Sources.{refused_after, value_length};
     ghost use Rattle.zarr_codecs_traits.specs.Writes.{WriteRefused, accepted_after};
     ghost use Rattle.zarr_grids_boxes.specs.Boxes.{product};
     ghost use Rattle.zarr_sharding_changes.specs.Changes.{appended, pairs_after};
@@ -72,6 +72,8 @@ impl KnownShard {
             refused_after (D.refused_calls source.old) result }
         ensures given { IsTrue (D.is_honest source.old) →
             D.given_bytes source.new ≤ D.given_bytes source.old + layout.entry.size }
+        ensures within { IsTrue (D.is_honest source.old) → D.given_bytes source.new
+            ≤ D.given_bytes source.old + value_length (D.contents source.old) }
         ensures follows { D.follows source.old source.new }
     {
         match fetch_index(alloc, codecs, source, layout) {
@@ -235,6 +237,8 @@ impl KnownShard {
             (pairs_in self.old)) result }
         ensures refused { E.refused_calls source.new ≡
             refused_after (E.refused_calls source.old) result }
+        ensures given { IsTrue (E.writes_ranges source.old) →
+            E.given_bytes source.new ≡ E.given_bytes source.old }
         ensures accepted { E.accepted_writes source.new ≡
             accepted_after (E.accepted_writes source.old) result }
         ensures rewrites { E.rewrites source.old source.new }
@@ -295,6 +299,8 @@ impl KnownShard {
             (end_of self.old + length bytes.slices.items)) result }
         ensures refused { E.refused_calls source.new ≡
             refused_after (E.refused_calls source.old) result }
+        ensures given { IsTrue (E.writes_ranges source.old) →
+            E.given_bytes source.new ≡ E.given_bytes source.old }
         ensures accepted { E.accepted_writes source.new ≡
             accepted_after (E.accepted_writes source.old) result }
         ensures rewrites { E.rewrites source.old source.new }

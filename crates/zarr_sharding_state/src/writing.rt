@@ -153,6 +153,8 @@ pub(crate) fn append_bytes<E: BytesPartialEncoderTraits>(
         (end + length bytes.slices.items)) result }
     ensures refused { E.refused_calls source.new ≡
         refused_after (E.refused_calls source.old) result }
+    ensures given { IsTrue (E.writes_ranges source.old) →
+        E.given_bytes source.new ≡ E.given_bytes source.old }
     ensures accepted { E.accepted_writes source.new ≡
         accepted_after (E.accepted_writes source.old) result }
     ensures rewrites { E.rewrites source.old source.new }

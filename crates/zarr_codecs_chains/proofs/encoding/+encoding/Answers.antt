@@ -1,4 +1,4 @@
-use Rattle.std.proofs.Common.{◌≡◌, ◌∙◌, ◌+◌, List, [], ◌∷◌, length, map, ap, sym, subst, arith, true, false, inr, Some, Ok, Err, unwrap_or}
+use Rattle.std.proofs.Common.{◌≡◌, ◌∙◌, ◌+◌, List, [], ◌∷◌, length, map, ap, refl, sym, subst, arith, true, false, inr, Some, Ok, Err, unwrap_or}
 use Rattle.std.specs.List.{list_all}
 use Rattle.zarr_grids_boxes.specs.Boxes.{product}
 use Rattle.zarr_codecs_meaning.specs.Chains.Chain.{optional, vlen}
@@ -176,7 +176,7 @@ encode_vlen-returns g t c =
     let found = c.in_default-validate.ensures in
     let fit : fits (vlen index content width location) elements.type shape ≡ true = ap (λ t. fits (vlen index content width location) t shape) (sym c.data_type-data_type.ensures) ∙ (sym c.in_ok-fits_vlen.ensures ∙ c.if-not-branch.false) in
     let valid = subst (λ t. IsValid t payload c.in-Some.count found.0) c.data_type-data_type.ensures found.1 in
-    c.encode_sections.ensures elements shape found.0 (sym c.in-Some.ensures.1) c.args.array.elements.now.fills fit valid
+    c.encode_sections.ensures elements shape found.0 (sym c.in-Some.ensures.1) c.args.array.elements.now.fills fit refl valid
 
 pub encode_inner-returns : goal.encode_inner-returns
 encode_inner-returns g t c = λ cells valid.
@@ -207,7 +207,7 @@ encode_optional-returns g t c =
     let suits = options_fit mask values elements.type shape fit in
     let values_fit = subst (λ t. fits values t (0 ∷ []) ≡ true) (ap (λ o. unwrap_or o elements.type) some) (suits.values_fit (0 ∷ [])) in
     let each = g.met.B.BytesToBytesCodecTraits.lawful in
-    makes_encodes chain elements shape payload cells c.encode_parts.result (lawful_of meaning each own.mask_codecs, lawful_of meaning each own.data_codecs) c.args.array.elements.now.fills fit valid
+    makes_encodes chain elements shape payload cells c.encode_parts.result (lawful_of meaning each own.mask_codecs, lawful_of meaning each own.data_codecs) c.args.array.elements.now.fills fit refl valid
     (c.encode_parts.ensures elements cells some suits.takes values_fit valid.is.many split)
 
 pub encode_chosen-returns-then-chosen-eq0 : goal.encode_chosen-returns-then-chosen-eq0
