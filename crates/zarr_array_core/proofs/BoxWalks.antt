@@ -14,7 +14,7 @@ use Rattle.zarr_array_core.specs.declared.chunk_value.BoxWrite.{BoxWrite}
 use Rattle.zarr_array_core.proofs.ChunkBoxes.{key_apart}
 use Rattle.zarr_array_core.proofs.ChunksWritten.{IsWalk}
 
-pub walk_of : {C : Type 0} (c : codecs.Ghosts C) (lawful : (codec : C) → IsLawfulChain (c.meaning codec)) (array : ArrayCore C) (write : BoxWrite) (chunks : Region) → length write.region.start.now ≡ length write.region.shape.now → length chunks.start ≡ length chunks.shape
+pub walk_of : {C R : Type 0} (c : codecs.Ghosts C) (lawful : (codec : C) → IsLawfulChain (c.meaning codec)) (array : ArrayCore C) (write : BoxWrite R) (chunks : Region) → length write.region.start.now ≡ length write.region.shape.now → length chunks.start ≡ length chunks.shape
     → length write.region.start.now ≡ length (document_of c.meaning array).grid → AreIntersecting (document_of c.meaning array).grid (extent_of write.region) chunks → list_all (is_value (document_of c.meaning array).elements.type) (array_cells array write.bytes.now) ≡ true
     → IsWalk (write_of c array write) chunks
 walk_of c lawful array write chunks region_rank chunks_rank rank meets values = record {

@@ -12,7 +12,7 @@ use Rattle.zarr_array_core.proofs.ChunkWritten.{value_other}
 use Rattle.zarr_array_core.proofs.Listed.{one_listed}
 use Rattle.zarr_array_core.proofs.NthChunks.{first_chunks, first_chunks-more, first_chunks-places, first_chunks-taken}
 
-counts_none : (n : ℕ) → CountsUpTo 0 n n
+pub counts_none : (n : ℕ) → CountsUpTo 0 n n
 counts_none n = (omega arith, omega arith)
 
 -- what is accepted after nothing was
@@ -57,6 +57,9 @@ in_turn_more s array (c ∷ chunks) chunk old mid new first next = (first.0, fir
 pub in_turn_still : {S : Type 0} (s : stores.Ghosts S) (array : Array) (chunks : List (List ℕ)) (old mid new : S) → InTurn s array chunks old mid → IsUnwritten s mid new → InTurn s array chunks old new
 in_turn_still s array [] old mid new first next = unwritten_then s old mid new first next
 in_turn_still s array (c ∷ chunks) old mid new first next = (first.0, first.1, in_turn_still s array chunks first.0 mid new first.2 next)
+
+pub turns_none : {S : Type 0} (s : stores.Ghosts S) (array : Array) (old : S) → InTurn s array [] old old
+turns_none s array old = record { honest = refl; counts = counts_none (s.accepted_writes old); held = refl }
 
 -- ---- the chunks of a box of chunk indices
 

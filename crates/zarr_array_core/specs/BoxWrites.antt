@@ -17,7 +17,7 @@ use Rattle.zarr_array_core.specs.declared.chunk_value.BoxWrite.{BoxWrite}
 use Rattle.zarr_array_core.specs.declared.region_chunks.RegionBytes.{RegionBytes}
 
 -- the cells that elements written to a box of an array are
-abbrev pub write_of : {C : Type 0} → codecs.Ghosts C → ArrayCore C → BoxWrite → Write
+abbrev pub write_of : {C R : Type 0} → codecs.Ghosts C → ArrayCore C → BoxWrite R → Write
 write_of c array write = write_to (array_of c array) (extent_of write.region) (array_cells array write.bytes.now) write.options.now
 
 -- the cells that elements for a region of an array are, written with these options
@@ -25,7 +25,7 @@ abbrev pub region_write : {C : Type 0} → codecs.Ghosts C → ArrayCore C → R
 region_write c array target options = write_to (array_of c array) (region_of target.region.now) (array_cells array target.bytes.now) options
 
 -- elements are written to a box that shares a place with a chunk: both have as many numbers, the chunk isn't too large, and there are as many values of the array as the box has places
-pub record WritesTo {C : Type 0} (array : ArrayCore C) (write : BoxWrite) (own : ArraySubset) : Type 0 where
+pub record WritesTo {C R : Type 0} (array : ArrayCore C) (write : BoxWrite R) (own : ArraySubset) : Type 0 where
   pub small : ¬ IsTooLarge (elements_of array.elements).type (product own.shape.items)
   pub shares : share_place own.start.items own.shape.items write.region.start.now write.region.shape.now ≡ true
   pub rank : length write.region.start.now ≡ length own.start.items

@@ -13,7 +13,7 @@ use Rattle.zarr_array_meaning.specs.Documents.{Document}
 use Rattle.zarr_array_meaning.specs.StoreMaps.{StoreMap}
 use Rattle.zarr_array_storage.specs.declared.traits.ReadableStorageTraits as stores
 use Rattle.zarr_array_core.specs.Arrays.{array_of}
-use Rattle.zarr_array_core.specs.Outcomes.{CountsRead, refused_with}
+use Rattle.zarr_array_core.specs.Outcomes.{CountsStop, IsStoreRefusal}
 use Rattle.zarr_array_core.specs.Parts.{AreShared, FindsAt, GivesChunk, PartNotRead, met_in}
 use Rattle.zarr_array_core.specs.declared.array_core.ArrayCore.{ArrayCore}
 use Rattle.zarr_array_core.specs.declared.chunk_reading.ChunkPart.{ChunkPart}
@@ -76,6 +76,13 @@ stop_of codec_error.Fit = error.Fit
 stop_of codec_error.Memory = error.Memory
 stop_of e = error.Damage
 
+-- why a part of a chunk that fits its codecs is not decoded, where these refuse for the first reason: the store refused, memory ran out, or what is stored is damaged
+abbrev pub IsStopOf : CodecError → ChunkError → Type 0
+IsStopOf codec_error.Source (error.Storage e) = IsStoreRefusal e
+IsStopOf codec_error.Source e = ⊥
+IsStopOf codec_error.Memory e = e ≡ error.Memory
+IsStopOf c e = e ≡ error.Damage
+
 -- what was fetched of a chunk of an array is decoded to what is read of the chunk, whatever read fetched it
 abbrev pub DecodesFetched : Array → FetchedChunk → Result (Option ChunkPart) ChunkError → Type 0
 DecodesFetched array item result = (read : RegionRead) (chunk : List ℕ) → read.array ≡ array → IsFetched read chunk item → FindsChunk read chunk result
@@ -105,19 +112,19 @@ pub record AreFirst {A : Type 0} (read : RegionRead) (chunks : Region) (holds : 
 abbrev pub AreFetched : RegionRead → Region → FetchedChunks → Type 0
 AreFetched read chunks all = AreFirst read chunks (IsFetched read) all.chunks.items all.stopped
 
--- the count of refused store calls after chunks were fetched: one more where the store refused to give the next one
-abbrev pub refused_by : Option ChunkError → ℕ → ℕ
-refused_by None count = count
-refused_by (Some e) count = refused_with e count
+-- the count of refused store calls before and after chunks were fetched: it stays where all were, and else is what the error says of the chunk that is not read
+abbrev pub CountsUntil : Option ChunkError → ℕ → ℕ → Type 0
+CountsUntil None before after = after ≡ before
+CountsUntil (Some e) before after = CountsStop e before after
 
--- the same after chunks were fetched, or memory ran out
-abbrev pub refused_fetching : ℕ → Result FetchedChunks ChunkError → ℕ
-refused_fetching count (Ok all) = refused_by all.stopped count
-refused_fetching count (Err e) = refused_with e count
+-- the same where memory may have run out
+abbrev pub CountsFetched : Result FetchedChunks ChunkError → ℕ → ℕ → Type 0
+CountsFetched (Ok all) before after = CountsUntil all.stopped before after
+CountsFetched (Err e) before after = CountsStop e before after
 
--- a store was only read, by a read that answers this: it holds what it held, stays as honest as it was and accepts no writing call
-pub record OnlyRead {S A : Type 0} (s : stores.Ghosts S) (old new : S) (result : Result A ChunkError) : Type 0 where
+-- a store was only read: it holds what it held, stays as honest as it was and accepts no writing call, and its counts of refused calls before and after are so related
+pub record OnlyRead {S : Type 0} (s : stores.Ghosts S) (old new : S) (counts : ℕ → ℕ → Type 0) : Type 0 where
   pub held : s.held new ≡ s.held old
   pub honest : s.is_honest new ≡ s.is_honest old
-  pub refused : CountsRead result (s.refused_calls old) (s.refused_calls new)
+  pub refused : counts (s.refused_calls old) (s.refused_calls new)
   pub accepted : s.accepted_writes new ≡ s.accepted_writes old

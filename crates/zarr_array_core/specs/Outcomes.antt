@@ -50,11 +50,15 @@ abbrev pub refused_after : {A : Type 0} → ℕ → Result A ChunkError → ℕ
 refused_after count (Ok value) = count
 refused_after count (Err e) = refused_with e count
 
--- the count of refused store calls before and after a read: one more where the store refused; with any other error it stays, or one more call was refused and what else was found comes first
+-- the count of refused store calls before and after a read with this error: one more where the store refused; with any other error it stays, or one more call was refused and what else was found comes first
+abbrev pub CountsStop : ChunkError → ℕ → ℕ → Type 0
+CountsStop (error.Storage e) before after = after ≡ counted before 1
+CountsStop e before after = (after ≡ before) ⊎ (after ≡ counted before 1)
+
+-- the count of refused store calls before and after a read: it stays where the read is done, and else is what its error says
 abbrev pub CountsRead : {A : Type 0} → Result A ChunkError → ℕ → ℕ → Type 0
 CountsRead (Ok value) before after = after ≡ before
-CountsRead (Err (error.Storage e)) before after = after ≡ counted before 1
-CountsRead (Err e) before after = (after ≡ before) ⊎ (after ≡ counted before 1)
+CountsRead (Err e) before after = CountsStop e before after
 
 -- the count of refused store calls after a call over several chunks
 abbrev pub refused_by_many : {A : Type 0} → ℕ → Result A ManyError → ℕ

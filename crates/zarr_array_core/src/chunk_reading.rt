@@ -4,6 +4,7 @@ ghost use Rattle.zarr_codecs_meaning.specs.Types.{Cell};
 ghost use Rattle.zarr_codecs_arrays.specs.Outcomes.{IsCounted};
 ghost use Rattle.zarr_codecs_arrays.specs.Views.{payload_of, elements_of};
 ghost use Rattle.zarr_array_elements.specs.Boxes.{cells_of};
+ghost use Rattle.zarr_array_core.specs.Fetching.{IsStopOf};
 
 use crate::array_core::ArrayCore;
 use crate::error::ChunkError;
@@ -12,8 +13,11 @@ use crate::reading::ReadBox;
 use crate::rooms::ChunkRooms;
 use crate::store_calls::size_key;
 use crate::store_source::{StoreSource, refusal_of};
+use std::alloc::Global;
+use std::marker::Sync;
+use std::thread::Threads;
 use zarr_array_elements::BoxElements;
-use zarr_array_storage::ReadableStorageTraits;
+use zarr_array_storage::{ReadableStorageTraits, StorageError};
 use zarr_codecs_arrays::{ArrayBytes, CodecError, Elements};
 use zarr_codecs_traits::{ArrayPart, ArrayToBytesCodecTraits, Indexer};
 use zarr_grids_boxes::ArraySubset;
@@ -40,7 +44,19 @@ fn are_so_many(bytes: &ArrayBytes, elements: &Elements, count: u64) -> bool
     }
 }
 
-impl<C: ArrayToBytesCodecTraits> ArrayCore<C> {
+/// Why a part of a chunk that fits its codecs is not decoded, where these refuse for this reason,
+/// and the store for that one, if it did.
+fn of_part(error: CodecError, refused: Option<StorageError>) -> ChunkError
+    ensures { IsStopOf error result }
+{
+    match error {
+        CodecError::Memory => ChunkError::Memory,
+        CodecError::Source => ChunkError::Storage(refusal_of(refused)),
+        _ => ChunkError::Damage,
+    }
+}
+
+impl<C: ArrayToBytesCodecTraits + Sync> ArrayCore<C> {
     ghost use Rattle.std.specs.Prelude.{◌≡◌, IsTrue, IfOk, IfErr, IfSome, true};
     ghost use Rattle.std.specs.FinMap as map;
     ghost use Rattle.zarr_grids_boxes.specs.Boxes.{Region, product, share_place};
@@ -51,18 +67,17 @@ impl<C: ArrayToBytesCodecTraits> ArrayCore<C> {
     ghost use Rattle.zarr_codecs_traits.specs.Indexers.{shape_has};
     ghost use Rattle.zarr_array_elements.specs.Views.{AreShown, cells_shown};
     ghost use Rattle.zarr_array_core.specs.Arrays.{array_of};
-    ghost use Rattle.zarr_array_core.specs.Calls.{Reads};
-    ghost use Rattle.zarr_array_core.specs.Fetching.{AreOfChunk, PutsFound};
+    ghost use Rattle.zarr_array_core.specs.Fetching.{AreOfChunk, OnlyRead};
     ghost use Rattle.zarr_array_core.specs.Views.{document_of};
-    ghost use Rattle.zarr_array_core.specs.Outcomes.{IsSmall, refused_after};
-    ghost use Rattle.zarr_array_core.specs.declared.error.ChunkError.TheVariants.{Memory};
+    ghost use Rattle.zarr_array_core.specs.Outcomes.{CountsRead, IsSmall};
     ghost use Rattle.zarr_array_core.specs.Parts.{AreShared, DecodesElements, FindsAt, FindsPart, GivesChunk, PartNotRead, ValueStops, met_in};
 
     /// The elements of a box after those of a chunk that lie in it were put over them, where
     /// nothing is stored for the chunk fill values. They stay where nothing is stored for it and it
     /// does not fit its codecs.
-    pub(crate) fn read_chunk<S: ReadableStorageTraits>(
+    pub(crate) fn read_chunk<R: Threads + Sync, S: ReadableStorageTraits>(
         &self,
+        rt: &R,
         rooms: &mut ChunkRooms,
         store: &mut S,
         chunk: &[u64],
@@ -87,12 +102,222 @@ impl<C: ArrayToBytesCodecTraits> ArrayCore<C> {
         ensures err { IsTrue (S.is_honest store.old) → IfErr result (PartNotRead
             (array_of C.ArrayToBytesCodecTraits self.now) (S.held store.old)
             (region_of read.entry.region.now) chunk.now) }
-        ensures store { Reads S.ReadableStorageTraits store.old store.new
-            (refused_after (S.refused_calls store.old) result) }
+        ensures store { OnlyRead S.ReadableStorageTraits store.old store.new (CountsRead result) }
     {
-        let found = self.chunk_part(rooms, store, chunk, read)?;
+        let found = self.chunk_part(rt, rooms, store, chunk, read)?;
         self.put_chunk_part(rooms, read, shown, found)
     }
+
+    /// The elements of a chunk that lie in a box. `None` where nothing is stored for the chunk and
+    /// it does not fit its codecs.
+    pub(crate) fn chunk_part<R: Threads + Sync, S: ReadableStorageTraits>(
+        &self,
+        rt: &R,
+        rooms: &mut ChunkRooms,
+        store: &mut S,
+        chunk: &[u64],
+        read: ReadBox,
+    ) -> Result<Option<ChunkPart>, ChunkError>
+        requires below { (box : Region)
+            × IsInGrid (document_of C.meaning self.now).grid chunk.now box }
+        requires shares { intersects (document_of C.meaning self.now).grid
+            (region_of read.region.now) chunk.now ≡ true }
+        requires small { IsSmall (document_of C.meaning self.now) (region_of read.region.now) }
+        ensures shared { IfOk result (AreOfChunk (document_of C.meaning self.now)
+            (region_of read.entry.region.now) chunk.now) }
+        ensures found { IsTrue (S.is_honest store.old) → IfOk result (FindsAt
+            (array_of C.ArrayToBytesCodecTraits self.now) (S.held store.old) chunk.now) }
+        ensures err { IsTrue (S.is_honest store.old) → IfErr result (PartNotRead
+            (array_of C.ArrayToBytesCodecTraits self.now) (S.held store.old)
+            (region_of read.entry.region.now) chunk.now) }
+        ensures store { OnlyRead S.ReadableStorageTraits store.old store.new (CountsRead result) }
+    {
+        let key = self.key_of(read.alloc, chunk)?;
+        let own = self.box_of(rooms.take_own(), chunk)?;
+        let shared = overlap_in(rooms.take_shared(), read.region, &own)?;
+        match self.part_of(rt, store, &key, &own, shared, read) {
+            Ok(Some(part)) => {
+                rooms.keep_own(own);
+                Ok(Some(part))
+            }
+            Ok(None) => match size_key(store, &key)? {
+                Some(_) => Err(ChunkError::Fit),
+                None => Ok(None),
+            },
+            Err(error) => Err(error),
+        }
+    }
+
+    /// The elements of what a store holds for a chunk, at the places that the chunk shares with a
+    /// box. `None` where the chunk does not fit its codecs. A store that gives another number of
+    /// elements isn't honest, and what it holds is taken as damaged.
+    fn part_of<R: Threads + Sync, S: ReadableStorageTraits>(
+        &self,
+        rt: &R,
+        store: &mut S,
+        key: &StoreKey,
+        own: &ArraySubset,
+        shared: ArraySubset,
+        read: ReadBox,
+    ) -> Result<Option<ChunkPart>, ChunkError>
+        requires shared { region_of shared
+            ≡ overlapped (region_of read.region.now) (region_of own.now) }
+        requires shares { share_place own.now.start.items own.now.shape.items
+            read.region.now.start.items read.region.now.shape.items ≡ true }
+        requires small { ¬ IsTooLarge (document_of C.meaning self.now).elements.type
+            (product own.now.shape.items) }
+        ensures shared { IfOk result (λ found. IfSome found (AreShared
+            (document_of C.meaning self.now).elements.type
+            (region_of read.entry.region.now) (region_of own.now))) }
+        ensures found { IsTrue (S.is_honest store.old) → IfOk result (FindsPart
+            (document_of C.meaning self.now) (region_of own.now)
+            (map.get (S.held store.old) key.now)) }
+        ensures err { IsTrue (S.is_honest store.old) → IfErr result (ValueStops (record {
+          document = document_of C.meaning self.now;
+          region = region_of read.entry.region.now;
+          box = region_of own.now;
+          stored = map.get (S.held store.old) key.now;
+        })) }
+        ensures store { OnlyRead S.ReadableStorageTraits store.old store.new (CountsRead result) }
+    {
+        let part = seen_from(shared, own.start());
+        let bytes = match self.decode_part(rt, store, key, own.shape(), &part, read) {
+            Ok(Some(bytes)) => bytes,
+            Ok(None) => return Ok(None),
+            Err(error) => return Err(error),
+        };
+        let count = self.count_elements(part.shape());
+        if !are_so_many(&bytes, &self.elements, count) {
+            return Err(ChunkError::Damage);
+        }
+        let shared = overlap_in(part, read.region, own)?;
+        Ok(Some(ChunkPart { shared, bytes }))
+    }
+
+    /// The elements at the places of a box of a chunk, of what a store holds at a key. Where the
+    /// codecs can, they fetch no more of it than they need. `None` where the chunk does not fit
+    /// them.
+    fn decode_part<R: Threads + Sync, S: ReadableStorageTraits>(
+        &self,
+        rt: &R,
+        store: &mut S,
+        key: &StoreKey,
+        shape: &[u64],
+        part: &ArraySubset,
+        read: ReadBox,
+    ) -> Result<Option<ArrayBytes>, ChunkError>
+        requires inside { shape_has shape.now (region_of part.now) ≡ true }
+        requires small { ¬ IsTooLarge (document_of C.meaning self.now).elements.type
+            (product shape.now) }
+        ensures part { IsTrue (S.is_honest store.old) → DecodesElements
+            (document_of C.meaning self.now) shape.now (map.get (S.held store.old) key.now)
+            (region_of part.now) result }
+        ensures store { OnlyRead S.ReadableStorageTraits store.old store.new (CountsRead result) }
+    {
+        if read.options.workers() {
+            return self.decode_part_by_workers(rt, store, key, shape, part, read);
+        }
+        self.decode_part_in_order(read.alloc, store, key, shape, part)
+    }
+
+    /// What `decode_part` answers, with no thread started.
+    fn decode_part_in_order<S: ReadableStorageTraits>(
+        &self,
+        alloc: Global,
+        store: &mut S,
+        key: &StoreKey,
+        shape: &[u64],
+        part: &ArraySubset,
+    ) -> Result<Option<ArrayBytes>, ChunkError>
+        requires inside { shape_has shape.now (region_of part.now) ≡ true }
+        requires small { ¬ IsTooLarge (document_of C.meaning self.now).elements.type
+            (product shape.now) }
+        ensures part { IsTrue (S.is_honest store.old) → DecodesElements
+            (document_of C.meaning self.now) shape.now (map.get (S.held store.old) key.now)
+            (region_of part.now) result }
+        ensures store { OnlyRead S.ReadableStorageTraits store.old store.new (CountsRead result) }
+    {
+        let (elements, indexer) = (self.elements(), Indexer::Subset(part));
+        let asked = ArrayPart {
+            elements,
+            shape,
+            indexer,
+        };
+        let codecs = self.codecs();
+        let mut refused = None;
+        let refusal = &mut refused;
+        let mut source = StoreSource {
+            store,
+            key,
+            refusal,
+        };
+        match codecs.partial_decode_in_order(alloc, &mut source, asked) {
+            Ok(bytes) => Ok(Some(bytes)),
+            Err(CodecError::Damage) => Err(ChunkError::Damage),
+            Err(CodecError::Fit) => Ok(None),
+            Err(CodecError::Memory) => Err(ChunkError::Memory),
+            Err(CodecError::Source) => Err(ChunkError::Storage(refusal_of(refused))),
+            Err(_) => Err(ChunkError::Damage),
+        }
+    }
+
+    /// What `decode_part` answers, where several threads decode a shard's subchunks. Whether the
+    /// chunk fits is asked first, so that the store has refused no call where it does not.
+    fn decode_part_by_workers<R: Threads + Sync, S: ReadableStorageTraits>(
+        &self,
+        rt: &R,
+        store: &mut S,
+        key: &StoreKey,
+        shape: &[u64],
+        part: &ArraySubset,
+        read: ReadBox,
+    ) -> Result<Option<ArrayBytes>, ChunkError>
+        requires inside { shape_has shape.now (region_of part.now) ≡ true }
+        requires small { ¬ IsTooLarge (document_of C.meaning self.now).elements.type
+            (product shape.now) }
+        ensures part { IsTrue (S.is_honest store.old) → DecodesElements
+            (document_of C.meaning self.now) shape.now (map.get (S.held store.old) key.now)
+            (region_of part.now) result }
+        ensures store { OnlyRead S.ReadableStorageTraits store.old store.new (CountsRead result) }
+    {
+        let data_type = self.elements.data_type();
+        if !self.codecs.fits(read.alloc, data_type, shape)? {
+            return Ok(None);
+        }
+        let (elements, indexer) = (&self.elements, Indexer::Subset(part));
+        let asked = ArrayPart {
+            elements,
+            shape,
+            indexer,
+        };
+        let mut refused = None;
+        let refusal = &mut refused;
+        let mut source = StoreSource {
+            store,
+            key,
+            refusal,
+        };
+        match self
+            .codecs
+            .partial_decode(rt, read.alloc, &mut source, asked, read.options)
+        {
+            Ok(bytes) => Ok(Some(bytes)),
+            Err(error) => Err(of_part(error, refused)),
+        }
+    }
+}
+
+impl<C: ArrayToBytesCodecTraits> ArrayCore<C> {
+    ghost use Rattle.std.specs.Prelude.{◌≡◌, IfOk, IfErr, true};
+    ghost use Rattle.zarr_grids_boxes.specs.Boxes.{product};
+    ghost use Rattle.zarr_grids_boxes.specs.Subsets.{region_of};
+    ghost use Rattle.zarr_grids_chunks.specs.Grids.{intersects};
+    ghost use Rattle.zarr_codecs_meaning.specs.Types.{IsTooLarge};
+    ghost use Rattle.zarr_array_elements.specs.Views.{AreShown, cells_shown};
+    ghost use Rattle.zarr_array_core.specs.Arrays.{array_of};
+    ghost use Rattle.zarr_array_core.specs.Fetching.{AreOfChunk, PutsFound};
+    ghost use Rattle.zarr_array_core.specs.Views.{document_of};
+    ghost use Rattle.zarr_array_core.specs.declared.error.ChunkError.TheVariants.{Memory};
 
     /// The elements of a box after what was found of a chunk was put over them. They stay where
     /// nothing was found.
@@ -123,136 +348,6 @@ impl<C: ArrayToBytesCodecTraits> ArrayCore<C> {
         let made = shown.put(read.alloc, read.region, bytes, shared, &self.elements)?;
         rooms.keep_shared(part.shared);
         Ok(made)
-    }
-
-    /// The elements of a chunk that lie in a box. `None` where nothing is stored for the chunk and
-    /// it does not fit its codecs.
-    pub(crate) fn chunk_part<S: ReadableStorageTraits>(
-        &self,
-        rooms: &mut ChunkRooms,
-        store: &mut S,
-        chunk: &[u64],
-        read: ReadBox,
-    ) -> Result<Option<ChunkPart>, ChunkError>
-        requires below { (box : Region)
-            × IsInGrid (document_of C.meaning self.now).grid chunk.now box }
-        requires shares { intersects (document_of C.meaning self.now).grid
-            (region_of read.region.now) chunk.now ≡ true }
-        requires small { IsSmall (document_of C.meaning self.now) (region_of read.region.now) }
-        ensures shared { IfOk result (AreOfChunk (document_of C.meaning self.now)
-            (region_of read.entry.region.now) chunk.now) }
-        ensures found { IsTrue (S.is_honest store.old) → IfOk result (FindsAt
-            (array_of C.ArrayToBytesCodecTraits self.now) (S.held store.old) chunk.now) }
-        ensures err { IsTrue (S.is_honest store.old) → IfErr result (PartNotRead
-            (array_of C.ArrayToBytesCodecTraits self.now) (S.held store.old)
-            (region_of read.entry.region.now) chunk.now) }
-        ensures store { Reads S.ReadableStorageTraits store.old store.new
-            (refused_after (S.refused_calls store.old) result) }
-    {
-        let key = self.key_of(read.alloc, chunk)?;
-        let own = self.box_of(rooms.take_own(), chunk)?;
-        let shared = overlap_in(rooms.take_shared(), read.region, &own)?;
-        match self.part_of(store, &key, &own, shared, read) {
-            Ok(Some(part)) => {
-                rooms.keep_own(own);
-                Ok(Some(part))
-            }
-            Ok(None) => match size_key(store, &key)? {
-                Some(_) => Err(ChunkError::Fit),
-                None => Ok(None),
-            },
-            Err(error) => Err(error),
-        }
-    }
-
-    /// The elements of what a store holds for a chunk, at the places that the chunk shares with a
-    /// box. `None` where the chunk does not fit its codecs. A store that gives another number of
-    /// elements isn't honest, and what it holds is taken as damaged.
-    fn part_of<S: ReadableStorageTraits>(
-        &self,
-        store: &mut S,
-        key: &StoreKey,
-        own: &ArraySubset,
-        shared: ArraySubset,
-        read: ReadBox,
-    ) -> Result<Option<ChunkPart>, ChunkError>
-        requires shared { region_of shared
-            ≡ overlapped (region_of read.region.now) (region_of own.now) }
-        requires shares { share_place own.now.start.items own.now.shape.items
-            read.region.now.start.items read.region.now.shape.items ≡ true }
-        requires small { ¬ IsTooLarge (document_of C.meaning self.now).elements.type
-            (product own.now.shape.items) }
-        ensures shared { IfOk result (λ found. IfSome found (AreShared
-            (document_of C.meaning self.now).elements.type
-            (region_of read.entry.region.now) (region_of own.now))) }
-        ensures found { IsTrue (S.is_honest store.old) → IfOk result (FindsPart
-            (document_of C.meaning self.now) (region_of own.now)
-            (map.get (S.held store.old) key.now)) }
-        ensures err { IsTrue (S.is_honest store.old) → IfErr result (ValueStops (record {
-          document = document_of C.meaning self.now;
-          region = region_of read.entry.region.now;
-          box = region_of own.now;
-          stored = map.get (S.held store.old) key.now;
-        })) }
-        ensures store { Reads S.ReadableStorageTraits store.old store.new
-            (refused_after (S.refused_calls store.old) result) }
-    {
-        let part = seen_from(shared, own.start());
-        let bytes = match self.decode_part(store, key, own.shape(), &part, read) {
-            Ok(Some(bytes)) => bytes,
-            Ok(None) => return Ok(None),
-            Err(error) => return Err(error),
-        };
-        let count = self.count_elements(part.shape());
-        if !are_so_many(&bytes, &self.elements, count) {
-            return Err(ChunkError::Damage);
-        }
-        let shared = overlap_in(part, read.region, own)?;
-        Ok(Some(ChunkPart { shared, bytes }))
-    }
-
-    /// The elements at the places of a box of a chunk, of what a store holds at a key. Where the
-    /// codecs can, they fetch no more of it than they need. `None` where the chunk does not fit
-    /// them.
-    fn decode_part<S: ReadableStorageTraits>(
-        &self,
-        store: &mut S,
-        key: &StoreKey,
-        shape: &[u64],
-        part: &ArraySubset,
-        read: ReadBox,
-    ) -> Result<Option<ArrayBytes>, ChunkError>
-        requires inside { shape_has shape.now (region_of part.now) ≡ true }
-        requires small { ¬ IsTooLarge (document_of C.meaning self.now).elements.type
-            (product shape.now) }
-        ensures part { IsTrue (S.is_honest store.old) → DecodesElements
-            (document_of C.meaning self.now) shape.now (map.get (S.held store.old) key.now)
-            (region_of part.now) result }
-        ensures store { Reads S.ReadableStorageTraits store.old store.new
-            (refused_after (S.refused_calls store.old) result) }
-    {
-        let (elements, indexer) = (self.elements(), Indexer::Subset(part));
-        let asked = ArrayPart {
-            elements,
-            shape,
-            indexer,
-        };
-        let codecs = self.codecs();
-        let mut refused = None;
-        let refusal = &mut refused;
-        let mut source = StoreSource {
-            store,
-            key,
-            refusal,
-        };
-        match codecs.partial_decode_in_order(read.alloc, &mut source, asked) {
-            Ok(bytes) => Ok(Some(bytes)),
-            Err(CodecError::Damage) => Err(ChunkError::Damage),
-            Err(CodecError::Fit) => Ok(None),
-            Err(CodecError::Memory) => Err(ChunkError::Memory),
-            Err(CodecError::Source) => Err(ChunkError::Storage(refusal_of(refused))),
-            Err(_) => Err(ChunkError::Damage),
-        }
     }
 
     /// How many elements an array of this shape has.

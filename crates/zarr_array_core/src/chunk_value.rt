@@ -9,24 +9,45 @@ use crate::array_core::ArrayCore;
 use crate::error::ChunkError;
 use crate::holding::holds_box;
 use std::alloc::Global;
+use std::thread::Threads;
 use zarr_array_elements::{put_over, take_out};
 use zarr_codecs_arrays::{ArrayBytes, CodecError};
 use zarr_codecs_options::CodecOptions;
-use zarr_codecs_traits::{ArrayToBytesCodecTraits, BytesRepresentation};
+use zarr_codecs_traits::{ArrayToBytesCodecTraits, BytesRepresentation, WholeArray};
 use zarr_grids_boxes::ArraySubset;
 use zarr_grids_boxes::walk::count_places;
 use zarr_grids_overlay::Extent;
 
 /// A write of a box: where it is, its elements, row-major, one after another, and how they are
-/// stored. What is made takes memory of `alloc`.
-#[derive(Clone, Copy)]
-pub(crate) struct BoxWrite<'r, 'b, 'o> {
+/// stored. What is made takes memory of `alloc`; workers are threads of `rt`.
+#[derive(Drop)]
+pub(crate) struct BoxWrite<'r, 'b, 'o, R> {
+    pub rt: &'o R,
     pub alloc: Global,
     pub subset: &'r ArraySubset,
     pub region: Extent<'r>,
     pub bytes: &'b ArrayBytes,
     pub options: &'o CodecOptions,
     ghost same_box: { region_of subset.now ≡ extent_of region },
+}
+
+/// What encoding and decoding values takes: the runtime, memory and options.
+#[derive(Drop)]
+pub(crate) struct Coding<'o, R> {
+    pub rt: &'o R,
+    pub alloc: Global,
+    pub options: &'o CodecOptions,
+}
+
+impl<'o, R> BoxWrite<'_, '_, 'o, R> {
+    /// What encoding and decoding the chunks' values takes.
+    pub(crate) fn coding(&self) -> Coding<'o, R> {
+        Coding {
+            rt: self.rt,
+            alloc: self.alloc,
+            options: self.options,
+        }
+    }
 }
 
 /// Whether a size is told, and not a bound or nothing.
@@ -53,7 +74,7 @@ fn of_encoding(error: CodecError) -> ChunkError
     }
 }
 
-impl<C: ArrayToBytesCodecTraits> ArrayCore<C> {
+impl<C: ArrayToBytesCodecTraits + Sync> ArrayCore<C> {
     ghost use Rattle.std.specs.Prelude.{◌≡◌, ◌*◌, ◌<◌, ℕ, List, Option, true, length, replicate, IfOk, IfErr, IsTrue, Some};
     ghost use Rattle.std.specs.List.{list_all};
     ghost use Rattle.zarr_array_core.specs.Arrays.{array_of};
@@ -76,12 +97,11 @@ impl<C: ArrayToBytesCodecTraits> ArrayCore<C> {
     ghost use Rattle.zarr_grids_overlay.specs.Overlays.{extent_of};
 
     /// The elements that a chunk's value is decoded to.
-    pub(crate) fn decode_value(
+    pub(crate) fn decode_value<R: Threads + Sync>(
         &self,
-        alloc: Global,
+        coding: &Coding<R>,
         value: Vec<u8>,
         shape: &[u64],
-        options: &CodecOptions,
     ) -> Result<ArrayBytes, ChunkError>
         requires small { ¬ IsTooLarge (document_of C.meaning self.now).elements.type
             (product shape.now) }
@@ -95,9 +115,11 @@ impl<C: ArrayToBytesCodecTraits> ArrayCore<C> {
         ensures err { IfErr result
             (DecodeStops (document_of C.meaning self.now) shape.now (Some value.items)) }
     {
+        let (rt, elements) = (coding.rt, &self.elements);
+        let array = WholeArray { elements, shape };
         match self
             .codecs
-            .decode_in_order(alloc, value, &self.elements, shape)
+            .decode(rt, coding.alloc, value, array, coding.options)
         {
             Ok(bytes) => Ok(bytes),
             Err(CodecError::Damage) => Err(ChunkError::Damage),
@@ -107,9 +129,9 @@ impl<C: ArrayToBytesCodecTraits> ArrayCore<C> {
     }
 
     /// The elements that what is stored for a chunk is decoded to.
-    fn decode_chunk(
+    fn decode_chunk<R: Threads + Sync>(
         &self,
-        write: &BoxWrite,
+        write: &BoxWrite<R>,
         shape: &[u64],
         stored: Option<Vec<u8>>,
     ) -> Result<ArrayBytes, ChunkError>
@@ -126,15 +148,15 @@ impl<C: ArrayToBytesCodecTraits> ArrayCore<C> {
             (DecodeStops (document_of C.meaning self.now) shape.now (value_bytes stored)) }
     {
         match stored {
-            Some(value) => self.decode_value(write.alloc, value, shape, write.options),
+            Some(value) => self.decode_value(&write.coding(), value, shape),
             None => self.fill_elements(write.alloc, count_places(shape).unwrap()),
         }
     }
 
     /// The elements of a chunk that lies in the box of a write.
-    pub(crate) fn whole_cells(
+    pub(crate) fn whole_cells<R>(
         &self,
-        write: &BoxWrite,
+        write: &BoxWrite<R>,
         own: &ArraySubset,
     ) -> Result<ArrayBytes, ChunkError>
         requires small { ¬ IsTooLarge (document_of C.meaning self.now).elements.type
@@ -157,9 +179,9 @@ impl<C: ArrayToBytesCodecTraits> ArrayCore<C> {
     }
 
     /// The elements of a chunk after a write put those of its box over the stored ones.
-    pub(crate) fn part_cells(
+    pub(crate) fn part_cells<R: Threads + Sync>(
         &self,
-        write: &BoxWrite,
+        write: &BoxWrite<R>,
         own: &ArraySubset,
         stored: Option<Vec<u8>>,
     ) -> Result<ArrayBytes, ChunkError>
@@ -212,12 +234,11 @@ impl<C: ArrayToBytesCodecTraits> ArrayCore<C> {
     }
 
     /// The bytes that the elements of a chunk are encoded to.
-    pub(crate) fn encode_value(
+    pub(crate) fn encode_value<R: Threads + Sync>(
         &self,
-        alloc: Global,
+        coding: &Coding<R>,
         shape: &[u64],
         bytes: ArrayBytes,
-        options: &CodecOptions,
     ) -> Result<Vec<u8>, ChunkError>
         requires small { ¬ IsTooLarge (document_of C.meaning self.now).elements.type
             (product shape.now) }
@@ -238,9 +259,11 @@ impl<C: ArrayToBytesCodecTraits> ArrayCore<C> {
         ensures err { IfErr result (EncodeRefuses (document_of C.meaning self.now) shape.now
             (array_cells self.now bytes)) }
     {
+        let (rt, elements) = (coding.rt, &self.elements);
+        let array = WholeArray { elements, shape };
         match self
             .codecs
-            .encode_in_order(alloc, bytes, &self.elements, shape)
+            .encode(rt, coding.alloc, bytes, array, coding.options)
         {
             Ok(value) => Ok(value),
             Err(error) => Err(of_encoding(error)),
@@ -249,9 +272,9 @@ impl<C: ArrayToBytesCodecTraits> ArrayCore<C> {
 
     /// Whether a chunk has a value even if all its elements are fill after a write: where it is
     /// written in part, or empty chunks are stored; a shard into which a part is put has none.
-    pub(crate) fn stores_fill(
+    pub(crate) fn stores_fill<R>(
         &self,
-        write: &BoxWrite,
+        write: &BoxWrite<R>,
         own: &ArraySubset,
     ) -> Result<bool, ChunkError>
         requires rank { length write.now.region.start.now ≡ length own.now.start.items }
@@ -270,7 +293,7 @@ impl<C: ArrayToBytesCodecTraits> ArrayCore<C> {
     }
 
     /// Whether a write may encode a chunk in part.
-    fn may_be_in_part(&self, write: &BoxWrite, own: &ArraySubset) -> bool
+    fn may_be_in_part<R>(&self, write: &BoxWrite<R>, own: &ArraySubset) -> bool
         requires { length write.now.region.start.now ≡ length own.now.start.items }
         ensures { result ≡ may_be_in_part (document_of C.meaning self.now) write.now.options.now
             (extent_of write.now.region) (region_of own.now) }
@@ -284,7 +307,11 @@ impl<C: ArrayToBytesCodecTraits> ArrayCore<C> {
     /// Whether a chunk is written in part, whatever its other elements are: the write may encode it
     /// so, and the codecs make no shard. Of those that encode in part only these tell the size of
     /// their values.
-    pub(crate) fn is_in_part(&self, write: &BoxWrite, own: &ArraySubset) -> Result<bool, ChunkError>
+    pub(crate) fn is_in_part<R>(
+        &self,
+        write: &BoxWrite<R>,
+        own: &ArraySubset,
+    ) -> Result<bool, ChunkError>
         requires rank { length write.now.region.start.now ≡ length own.now.start.items }
         requires small { ¬ IsTooLarge (document_of C.meaning self.now).elements.type
             (product own.now.shape.items) }
@@ -312,9 +339,9 @@ impl<C: ArrayToBytesCodecTraits> ArrayCore<C> {
     /// Whether a write puts a part of a chunk into the chunk's shard: it may encode the chunk in
     /// part, and the codecs make a shard. `Fit` where the chunk doesn't suit its codecs, which is
     /// looked at only where a write may encode it in part.
-    pub(crate) fn is_into_shard(
+    pub(crate) fn is_into_shard<R>(
         &self,
-        write: &BoxWrite,
+        write: &BoxWrite<R>,
         own: &ArraySubset,
     ) -> Result<bool, ChunkError>
         requires rank { length write.now.region.start.now ≡ length own.now.start.items }
@@ -339,12 +366,11 @@ impl<C: ArrayToBytesCodecTraits> ArrayCore<C> {
 
     /// The value of a chunk with these elements, or `None` where it is to have none: where they are
     /// all fill, and such a chunk isn't stored.
-    pub(crate) fn encode_chunk(
+    pub(crate) fn encode_chunk<R: Threads + Sync>(
         &self,
-        alloc: Global,
+        coding: &Coding<R>,
         shape: &[u64],
         bytes: ArrayBytes,
-        options: &CodecOptions,
         store_empty: bool,
     ) -> Result<Option<Vec<u8>>, ChunkError>
         requires small { ¬ IsTooLarge (document_of C.meaning self.now).elements.type
@@ -362,7 +388,7 @@ impl<C: ArrayToBytesCodecTraits> ArrayCore<C> {
         if !store_empty && self.is_all_fill(&bytes) {
             return Ok(None);
         }
-        let value = self.encode_value(alloc, shape, bytes, options)?;
+        let value = self.encode_value(coding, shape, bytes)?;
         Ok(Some(value))
     }
 }

@@ -11,6 +11,7 @@ use crate::error::ChunkError;
 use crate::holding::holds_box;
 use crate::rooms::ChunkRooms;
 use crate::store_calls::{erase, get, set};
+use std::thread::Threads;
 use zarr_array_storage::WritableStorageTraits;
 use zarr_codecs_arrays::ArrayBytes;
 use zarr_codecs_traits::ArrayToBytesCodecTraits;
@@ -36,7 +37,7 @@ pub(crate) fn put_value<S: WritableStorageTraits>(
     }
 }
 
-impl<C: ArrayToBytesCodecTraits> ArrayCore<C> {
+impl<C: ArrayToBytesCodecTraits + Sync> ArrayCore<C> {
     ghost use Rattle.std.specs.Prelude.{◌≡◌, ℕ, List, Option, true, IsTrue, IfOk};
     ghost use Rattle.std.specs.FinMap as map;
     ghost use Rattle.zarr_array_core.specs.Arrays.{array_of, Called, IfHonestErr, OnHonestOk};
@@ -50,11 +51,11 @@ impl<C: ArrayToBytesCodecTraits> ArrayCore<C> {
     ghost use Rattle.zarr_grids_boxes.specs.Subsets.{region_of};
 
     /// The elements of a chunk after a write. Of a chunk that lies in its box nothing is fetched.
-    fn cells_after<S: WritableStorageTraits>(
+    fn cells_after<R: Threads + Sync, S: WritableStorageTraits>(
         &self,
         store: &mut S,
         key: &StoreKey,
-        write: &BoxWrite,
+        write: &BoxWrite<R>,
         own: &ArraySubset,
     ) -> Result<ArrayBytes, ChunkError>
         requires writes { WritesTo self.now write.now own.now }
@@ -85,11 +86,11 @@ impl<C: ArrayToBytesCodecTraits> ArrayCore<C> {
 
     /// Writes the elements of a box that lie in a chunk that suits its codecs: the chunk's value is
     /// made anew of the elements that it had and the new ones.
-    fn write_fitting<S: WritableStorageTraits>(
+    fn write_fitting<R: Threads + Sync, S: WritableStorageTraits>(
         &self,
         store: &mut S,
         key: &StoreKey,
-        write: &BoxWrite,
+        write: &BoxWrite<R>,
         own: &ArraySubset,
     ) -> Result<(), ChunkError>
         requires writes { WritesTo self.now write.now own.now }
@@ -107,21 +108,21 @@ impl<C: ArrayToBytesCodecTraits> ArrayCore<C> {
     {
         let bytes = self.cells_after(store, key, write, own)?;
         let empty = self.stores_fill(write, own)?;
-        let value = self.encode_chunk(write.alloc, own.shape(), bytes, write.options, empty)?;
+        let value = self.encode_chunk(&write.coding(), own.shape(), bytes, empty)?;
         put_value(store, key, value)
     }
 
     /// Writes the elements of a box that lie in a chunk. Where what is stored is not decoded, they
     /// are put into it, if the chunk is written in part.
-    pub(crate) fn write_chunk<S: WritableStorageTraits>(
+    pub(crate) fn write_chunk<R: Threads + Sync, S: WritableStorageTraits>(
         &self,
         rooms: &mut ChunkRooms,
         store: &mut S,
         key: &StoreKey,
-        write: &BoxWrite,
+        write: &BoxWrite<R>,
         own: &ArraySubset,
     ) -> Result<(), ChunkError>
-        requires { WritesTo self.now write.now own.now }
+        requires writes { WritesTo self.now write.now own.now }
         ensures ok { OnHonestOk S.ReadableStorageTraits store.old store.new result
             (ChangesAt key.now (ChangesValue
             (write_of C.ArrayToBytesCodecTraits self.now write.now) (region_of own.now))) }

@@ -83,24 +83,25 @@ fn least_chunks(bytes: usize, count: usize) -> usize {
     (1usize << 18).div_ceil(each).clamp(1, 1024)
 }
 
-impl<C: ArrayToBytesCodecTraits> ArrayCore<C> {
+impl<C: ArrayToBytesCodecTraits + Sync> ArrayCore<C> {
     ghost use Rattle.std.specs.Prelude.{◌≡◌, IsTrue, IfOk, IfErr, true};
+    ghost use Rattle.std.specs.List.{AllZip};
     ghost use Rattle.zarr_grids_boxes.specs.Boxes.{Region};
     ghost use Rattle.zarr_grids_boxes.specs.Subsets.{region_of};
     ghost use Rattle.zarr_grids_chunks.specs.Grids.{IsInGrid, intersects};
     ghost use Rattle.zarr_grids_cover.specs.Intersecting.{AreIntersecting};
     ghost use Rattle.zarr_array_core.specs.Arrays.{array_of};
-    ghost use Rattle.zarr_array_core.specs.Calls.{Reads};
-    ghost use Rattle.zarr_array_core.specs.Fetching.{AreFetched, DecodesFetched, IsFetched, read_of, refused_fetching};
-    ghost use Rattle.zarr_array_core.specs.Outcomes.{IsSmall, refused_after};
+    ghost use Rattle.zarr_array_core.specs.Fetching.{AreFetched, CountsFetched, DecodesFetched, IsFetched, OnlyRead, read_of};
+    ghost use Rattle.zarr_array_core.specs.Outcomes.{CountsRead, IsSmall};
     ghost use Rattle.zarr_array_core.specs.Parts.{PartNotRead};
     ghost use Rattle.zarr_array_core.specs.Views.{document_of};
     ghost use Rattle.zarr_array_core.specs.declared.error.ChunkError.TheVariants.{Memory};
 
     /// What the chunks hold that a box intersects, row-major, up to the first that is not read. The
     /// values of those that lie in the box are not decoded. Want of memory alone is an error.
-    pub(crate) fn fetch_chunks<S: ReadableStorageTraits>(
+    pub(crate) fn fetch_chunks<R: Threads + Sync, S: ReadableStorageTraits>(
         &self,
+        rt: &R,
         rooms: &mut ChunkRooms,
         store: &mut S,
         read: ReadBox,
@@ -112,8 +113,8 @@ impl<C: ArrayToBytesCodecTraits> ArrayCore<C> {
             (read_of C.ArrayToBytesCodecTraits S.ReadableStorageTraits self.now store.old
             (region_of read.entry.region.now)) (region_of read.entry.chunks.now)) }
         ensures err { IfErr result (λ e. e ≡ Memory) }
-        ensures store { Reads S.ReadableStorageTraits store.old store.new
-            (refused_fetching (S.refused_calls store.old) result) }
+        ensures store { OnlyRead S.ReadableStorageTraits store.old store.new
+            (CountsFetched result) }
     {
         let first = read.chunks.start();
         let shape = read.chunks.shape();
@@ -125,7 +126,7 @@ impl<C: ArrayToBytesCodecTraits> ArrayCore<C> {
         let mut bytes = 0;
         for n in 0..count {
             place_into(first, shape, count, n, chunk);
-            match self.fetch_chunk(rooms, store, chunk, read) {
+            match self.fetch_chunk(rt, rooms, store, chunk, read) {
                 Ok(fetched) => {
                     bytes = with_value(bytes, &fetched);
                     chunks.push(fetched)?;
@@ -152,8 +153,9 @@ impl<C: ArrayToBytesCodecTraits> ArrayCore<C> {
 
     /// The value of a chunk that lies in a box, not decoded, or the elements of the chunk that lie
     /// in the box.
-    fn fetch_chunk<S: ReadableStorageTraits>(
+    fn fetch_chunk<R: Threads + Sync, S: ReadableStorageTraits>(
         &self,
+        rt: &R,
         rooms: &mut ChunkRooms,
         store: &mut S,
         chunk: &[u64],
@@ -170,13 +172,12 @@ impl<C: ArrayToBytesCodecTraits> ArrayCore<C> {
         ensures err { IsTrue (S.is_honest store.old) → IfErr result (PartNotRead
             (array_of C.ArrayToBytesCodecTraits self.now) (S.held store.old)
             (region_of read.entry.region.now) chunk.now) }
-        ensures store { Reads S.ReadableStorageTraits store.old store.new
-            (refused_after (S.refused_calls store.old) result) }
+        ensures store { OnlyRead S.ReadableStorageTraits store.old store.new (CountsRead result) }
     {
         let own = self.box_of(rooms.take_own(), chunk)?;
         if !is_whole(read.region, &own) {
             rooms.keep_own(own);
-            let found = self.chunk_part(rooms, store, chunk, read)?;
+            let found = self.chunk_part(rt, rooms, store, chunk, read)?;
             return Ok(FetchedChunk::Part(found));
         }
         let key = self.key_of(read.alloc, chunk)?;
@@ -212,13 +213,6 @@ impl<C: ArrayToBytesCodecTraits> ArrayCore<C> {
             Err(error) => Err(of_decoding(error)),
         }
     }
-}
-
-impl<C: ArrayToBytesCodecTraits + Sync> ArrayCore<C> {
-    ghost use Rattle.std.specs.Prelude.{IfOk};
-    ghost use Rattle.std.specs.List.{AllZip};
-    ghost use Rattle.zarr_array_core.specs.Arrays.{array_of};
-    ghost use Rattle.zarr_array_core.specs.Fetching.{DecodesFetched};
 
     /// The elements of chunks, of what was fetched of each, in their order, decoded by as many
     /// threads as there are.

@@ -30,7 +30,7 @@ fn of_sharding(error: CodecError, refusal: StorageError) -> ChunkError
     }
 }
 
-impl<C: ArrayToBytesCodecTraits> ArrayCore<C> {
+impl<C: ArrayToBytesCodecTraits + Sync> ArrayCore<C> {
     ghost use Rattle.std.specs.Prelude.{◌≡◌, ℕ, List, Option, true, IsTrue, OnOk};
     ghost use Rattle.std.specs.FinMap as map;
     ghost use Rattle.zarr_array_core.specs.Arrays.{array_of, Called, IfHonestErr, OnHonestOk};
@@ -43,10 +43,10 @@ impl<C: ArrayToBytesCodecTraits> ArrayCore<C> {
 
     /// Puts elements in the place of those of a box of a chunk of this shape, in the value that a
     /// target holds.
-    fn put_into_target<'x, S: WritableStorageTraits>(
+    fn put_into_target<'x, R, S: WritableStorageTraits>(
         &'x self,
         target: &mut StoreTarget<'_, S>,
-        write: &BoxWrite,
+        write: &BoxWrite<R>,
         given: ArrayBytes,
         shape: &'x [u64],
         part: &'x ArraySubset,
@@ -78,12 +78,12 @@ impl<C: ArrayToBytesCodecTraits> ArrayCore<C> {
     /// Puts the elements of a box that lie in a chunk into the chunk's shard, by one writing call
     /// of the store: only the subchunks that the box meets are decoded. Where the shard is all fill
     /// then, its key is taken away.
-    pub(crate) fn put_into_shard<S: WritableStorageTraits>(
+    pub(crate) fn put_into_shard<R, S: WritableStorageTraits>(
         &self,
         rooms: &mut ChunkRooms,
         store: &mut S,
         key: &StoreKey,
-        write: &BoxWrite,
+        write: &BoxWrite<R>,
         own: &ArraySubset,
     ) -> Result<(), ChunkError>
         requires writes { WritesTo self.now write.now own.now }

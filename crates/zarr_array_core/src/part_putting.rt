@@ -12,6 +12,7 @@ use crate::moving::{overlap_in, seen_from};
 use crate::plain_bytes::as_plain_bytes;
 use crate::rooms::ChunkRooms;
 use crate::store_calls::{get, set};
+use std::thread::Threads;
 use zarr_array_storage::WritableStorageTraits;
 use zarr_codecs_arrays::{ArrayBytes, CodecError};
 use zarr_codecs_traits::{ArrayPart, ArrayToBytesCodecTraits, Indexer, MemorySource};
@@ -50,7 +51,7 @@ fn source_of_value(value: Vec<u8>) -> MemorySource
     MemorySource::new(Some(value))
 }
 
-impl<C: ArrayToBytesCodecTraits> ArrayCore<C> {
+impl<C: ArrayToBytesCodecTraits + Sync> ArrayCore<C> {
     ghost use Rattle.std.specs.Prelude.{◌≡◌, List, Some, None, true, false, IsTrue, IfOk, OnOk, IfErr};
     ghost use Rattle.std.specs.FinMap as map;
     ghost use Rattle.zarr_array_core.specs.Arrays.{array_of, Called, IfHonestErr, OnHonestOk};
@@ -75,15 +76,15 @@ impl<C: ArrayToBytesCodecTraits> ArrayCore<C> {
     /// Puts elements in the place of those of a box of a chunk of this shape, in the value that a
     /// source holds. They are put as plain bytes, so that the bytes of the others stay, whatever
     /// they are.
-    fn encode_into(
+    fn encode_into<R>(
         &self,
         source: &mut MemorySource,
-        write: &BoxWrite,
+        write: &BoxWrite<R>,
         given: ArrayBytes,
         shape: &[u64],
         part: &ArraySubset,
     ) -> Result<(), CodecError>
-        requires { is_fixed (document_of C.meaning self.now).elements.type ≡ true }
+        requires fixed { is_fixed (document_of C.meaning self.now).elements.type ≡ true }
         ensures ok { OnOk result ((cells : List Cell) × IsEncodedInto
             (coded (document_of C.meaning self.now).chain
             (plain_elements (document_of C.meaning self.now).elements) shape.now)
@@ -109,11 +110,11 @@ impl<C: ArrayToBytesCodecTraits> ArrayCore<C> {
 
     /// Puts the elements of a box that lie in a chunk into the value that a source holds for it, as
     /// plain bytes.
-    fn put_into(
+    fn put_into<R>(
         &self,
         rooms: &mut ChunkRooms,
         source: &mut MemorySource,
-        write: &BoxWrite,
+        write: &BoxWrite<R>,
         own: &ArraySubset,
     ) -> Result<(), ChunkError>
         requires writes { WritesTo self.now write.now own.now }
@@ -140,10 +141,10 @@ impl<C: ArrayToBytesCodecTraits> ArrayCore<C> {
     /// What is stored for a chunk after the elements of a box that lie in it were put there: its
     /// other elements keep their bytes. Where the codecs leave no value, it is the fill value
     /// encoded.
-    fn value_with_part(
+    fn value_with_part<R: Threads + Sync>(
         &self,
         rooms: &mut ChunkRooms,
-        write: &BoxWrite,
+        write: &BoxWrite<R>,
         own: &ArraySubset,
         stored: Option<Vec<u8>>,
     ) -> Result<Vec<u8>, ChunkError>
@@ -169,19 +170,19 @@ impl<C: ArrayToBytesCodecTraits> ArrayCore<C> {
             None => {
                 let count = count_places(own.shape()).unwrap();
                 let fill = self.fill_elements(write.alloc, count)?;
-                self.encode_value(write.alloc, own.shape(), fill, write.options)
+                self.encode_value(&write.coding(), own.shape(), fill)
             }
         }
     }
 
     /// Puts the elements of a box that lie in a chunk into what is stored for the chunk, which
     /// isn't decoded, if the chunk is written in part.
-    pub(crate) fn put_part<S: WritableStorageTraits>(
+    pub(crate) fn put_part<R: Threads + Sync, S: WritableStorageTraits>(
         &self,
         rooms: &mut ChunkRooms,
         store: &mut S,
         key: &StoreKey,
-        write: &BoxWrite,
+        write: &BoxWrite<R>,
         own: &ArraySubset,
     ) -> Result<(), ChunkError>
         requires writes { WritesTo self.now write.now own.now }

@@ -11,6 +11,7 @@ use crate::moving::{overlap_in, seen_from};
 use crate::rooms::ChunkRooms;
 use crate::store_calls::{set, set_partial, size_key};
 use std::alloc::{AllocError, Global};
+use std::thread::Threads;
 use zarr_array_storage::{ValuePatch, WritableStorageTraits};
 use zarr_codecs_arrays::{ArrayBytes, CodecError};
 use zarr_codecs_traits::value_patch::{any_ends_past, overwrite_each};
@@ -50,7 +51,7 @@ fn over_zeros(
     Ok(Some(value))
 }
 
-impl<C: ArrayToBytesCodecTraits> ArrayCore<C> {
+impl<C: ArrayToBytesCodecTraits + Sync> ArrayCore<C> {
     ghost use Rattle.std.specs.Prelude.{◌≡◌, ◌*◌, ℕ, Some, None, true, false, length, replicate, IsTrue, IfOk, IfErr, IfSome};
     ghost use Rattle.std.specs.FinMap as map;
     ghost use Rattle.zarr_array_core.specs.Arrays.{array_of, Called, IfHonestErr, OnHonestOk};
@@ -74,10 +75,10 @@ impl<C: ArrayToBytesCodecTraits> ArrayCore<C> {
 
     /// Whether elements may be written into a chunk's value that nobody reads: a part of the chunk
     /// is to stay, and both the codecs and the store take such writes.
-    fn takes_part<S: WritableStorageTraits>(
+    fn takes_part<R, S: WritableStorageTraits>(
         &self,
         store: &S,
-        write: &BoxWrite,
+        write: &BoxWrite<R>,
         chunk: Extent,
     ) -> bool
         requires rank { length write.now.region.start.now ≡ length chunk.start.now }
@@ -94,10 +95,10 @@ impl<C: ArrayToBytesCodecTraits> ArrayCore<C> {
     /// The ranges to be written into a chunk's value so that the elements of a box are put over its
     /// own. `None` where the value is to be written whole: where those elements are all fill and
     /// the chunk may lose its key, or they lie on too many lines to be worth a range each.
-    fn chunk_patches(
+    fn chunk_patches<R>(
         &self,
         rooms: &mut ChunkRooms,
-        write: &BoxWrite,
+        write: &BoxWrite<R>,
         own: &ArraySubset,
     ) -> Result<Option<ValuePatches>, ChunkError>
         requires writes { WritesTo self.now write.now own.now }
@@ -174,11 +175,11 @@ impl<C: ArrayToBytesCodecTraits> ArrayCore<C> {
 
     /// Writes the elements of a box that lie in a chunk that has no value, where ranges write them
     /// into any value of it. Where a chunk of fill is zeros, they are written into these.
-    fn write_new<S: WritableStorageTraits>(
+    fn write_new<R: Threads + Sync, S: WritableStorageTraits>(
         &self,
         store: &mut S,
         key: &StoreKey,
-        write: &BoxWrite,
+        write: &BoxWrite<R>,
         own: &ArraySubset,
         patches: &[ValuePatch<'_>],
     ) -> Result<(), ChunkError>
@@ -208,21 +209,21 @@ impl<C: ArrayToBytesCodecTraits> ArrayCore<C> {
         }
         let bytes = self.part_cells(write, own, None)?;
         let empty = self.stores_fill(write, own)?;
-        let value = self.encode_chunk(write.alloc, own.shape(), bytes, write.options, empty)?;
+        let value = self.encode_chunk(&write.coding(), own.shape(), bytes, empty)?;
         put_value(store, key, value)
     }
 
     /// Writes the elements of a box that lie in a chunk into the chunk's value, of which nothing is
     /// fetched. `false` where it can't be written so; then nothing has changed.
-    pub(crate) fn patch_chunk<S: WritableStorageTraits>(
+    pub(crate) fn patch_chunk<R: Threads + Sync, S: WritableStorageTraits>(
         &self,
         rooms: &mut ChunkRooms,
         store: &mut S,
         key: &StoreKey,
-        write: &BoxWrite,
+        write: &BoxWrite<R>,
         own: &ArraySubset,
     ) -> Result<bool, ChunkError>
-        requires { WritesTo self.now write.now own.now }
+        requires writes { WritesTo self.now write.now own.now }
         ensures ok { IsTrue (S.is_honest store.old) → IfOk result (λ done. done ≡ true →
             ChangesAt key.now (MakesValue (write_of C.ArrayToBytesCodecTraits self.now write.now)
             (region_of own.now)) (S.held store.old) (S.held store.new)) }

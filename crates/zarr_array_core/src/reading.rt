@@ -46,10 +46,10 @@ impl<C: ArrayToBytesCodecTraits + Sync> ArrayCore<C> {
     ghost use Rattle.zarr_array_core.specs.Fetching.{OnlyRead};
     ghost use Rattle.zarr_array_core.specs.Outcomes.{CountsRead, GivesBox, ReadStops, IsSmall};
 
-    /// The elements of a region that is not empty, row-major. The first chunk, row-major, that is
-    /// not read decides: `Fit` where it has a value and does not fit its codecs, `Damage` where a
-    /// place of it in the region cannot be decoded, `Storage` where the store refuses. Workers
-    /// decode the chunks that lie in the region, once all are fetched.
+    /// The elements of a region that isn't empty, row-major. The first chunk, row-major, that isn't
+    /// read decides: `Fit` where it has a value and doesn't fit its codecs, `Damage` where a place
+    /// of it in the region cannot be decoded, `Storage` where the store refuses. Workers decode
+    /// whole chunks, once all are fetched, and subchunks of shards met in part or alone.
     pub fn read_region<R: Threads + Sync, S: ReadableStorageTraits>(
         &self,
         rt: &R,
@@ -95,8 +95,9 @@ impl<C: ArrayToBytesCodecTraits + Sync> ArrayCore<C> {
     }
 
     /// The elements of a box, which begin as fill values, after those of each chunk that the box
-    /// intersects were put over them. Where the options ask for workers, and there are several
-    /// chunks, these are fetched first, up to one that is not read, and decoded by several threads.
+    /// intersects were put over them. Where the options ask for workers, there are several chunks,
+    /// and their values have to be decoded, these are fetched first, up to one that is not read,
+    /// and decoded by several threads.
     fn read_met<R: Threads + Sync, S: ReadableStorageTraits>(
         &self,
         rt: &R,
@@ -122,16 +123,16 @@ impl<C: ArrayToBytesCodecTraits + Sync> ArrayCore<C> {
         ensures err { IsTrue (S.is_honest store.old) → IfErr result
             (ReadStops (path_of self.now) (document_of C.meaning self.now) (S.held store.old)
             (region_of read.entry.region.now)) }
-        ensures store { OnlyRead S.ReadableStorageTraits store.old store.new result }
+        ensures store { OnlyRead S.ReadableStorageTraits store.old store.new (CountsRead result) }
     {
-        if !read.options.workers() || !are_several(read.chunks) {
-            return self.read_chunks(rooms, store, read, shown);
+        if !read.options.workers() || !are_several(read.chunks) || self.codecs.encodes_as_is() {
+            return self.read_chunks(rt, rooms, store, read, shown);
         }
         let FetchedChunks {
             chunks,
             bytes,
             stopped,
-        } = self.fetch_chunks(rooms, store, read)?;
+        } = self.fetch_chunks(rt, rooms, store, read)?;
         let decoded = self.decode_chunks(rt, read.alloc, chunks, bytes)?;
         let mut target = shown;
         for found in decoded {
@@ -143,23 +144,12 @@ impl<C: ArrayToBytesCodecTraits + Sync> ArrayCore<C> {
             None => Ok(target),
         }
     }
-}
-
-impl<C: ArrayToBytesCodecTraits> ArrayCore<C> {
-    ghost use Rattle.std.specs.Prelude.{◌≡◌, IsTrue, IfOk, IfErr, replicate};
-    ghost use Rattle.zarr_grids_boxes.specs.Boxes.{product};
-    ghost use Rattle.zarr_grids_boxes.specs.Subsets.{region_of};
-    ghost use Rattle.zarr_grids_cover.specs.Intersecting.{AreIntersecting};
-    ghost use Rattle.zarr_array_meaning.specs.Boxes.{IsRead};
-    ghost use Rattle.zarr_array_elements.specs.Views.{AreShown, cells_shown};
-    ghost use Rattle.zarr_array_core.specs.Views.{document_of, path_of};
-    ghost use Rattle.zarr_array_core.specs.Calls.{Reads};
-    ghost use Rattle.zarr_array_core.specs.Outcomes.{ReadStops, IsSmall, refused_after};
 
     /// The elements of a box, which begin as fill values, after those of each chunk that the box
     /// intersects were put over them.
-    fn read_chunks<S: ReadableStorageTraits>(
+    fn read_chunks<R: Threads + Sync, S: ReadableStorageTraits>(
         &self,
+        rt: &R,
         rooms: &mut ChunkRooms,
         store: &mut S,
         read: ReadBox,
@@ -182,8 +172,7 @@ impl<C: ArrayToBytesCodecTraits> ArrayCore<C> {
         ensures err { IsTrue (S.is_honest store.old) → IfErr result
             (ReadStops (path_of self.now) (document_of C.meaning self.now) (S.held store.old)
             (region_of read.entry.region.now)) }
-        ensures store { Reads S.ReadableStorageTraits store.old store.new
-            (refused_after (S.refused_calls store.old) result) }
+        ensures store { OnlyRead S.ReadableStorageTraits store.old store.new (CountsRead result) }
     {
         let first = read.chunks.start();
         let shape = read.chunks.shape();
@@ -194,7 +183,7 @@ impl<C: ArrayToBytesCodecTraits> ArrayCore<C> {
         let mut target = shown;
         for n in 0..count {
             place_into(first, shape, count, n, chunk);
-            match self.read_chunk(rooms, store, chunk, read, target) {
+            match self.read_chunk(rt, rooms, store, chunk, read, target) {
                 Ok(next) => target = next,
                 Err(error) => return Err(error),
             }

@@ -3,6 +3,7 @@ ghost use Rattle.std.specs.Prelude.{◌≡◌, ◌+◌, ◌<◌, ◌^◌};
 ghost use Rattle.zarr_array_core.specs.Rewriting.{counted_chunk};
 
 use crate::array_core::ArrayCore;
+use crate::chunk_value::Coding;
 use crate::chunk_writing::put_value;
 use crate::error::{ChunkError, ManyError};
 use crate::rooms::ChunkRooms;
@@ -26,15 +27,19 @@ fn counted_chunk(applied: u64, had: bool) -> u64
 }
 
 impl<C: ArrayToBytesCodecTraits + Sync> ArrayCore<C> {
-    ghost use Rattle.std.specs.Prelude.{◌<◌, ◌^◌, length, IsTrue};
-    ghost use Rattle.zarr_grids_boxes.specs.Boxes.{product};
+    ghost use Rattle.std.specs.Prelude.{◌<◌, ◌^◌, [], ◌∷◌, length, IsTrue, IfOk, IfErr, MatchBool};
+    ghost use Rattle.zarr_grids_boxes.specs.Boxes.{Region, product};
     ghost use Rattle.zarr_grids_boxes.specs.Subsets.{region_of};
+    ghost use Rattle.zarr_grids_chunks.specs.Grids.{IsInGrid};
     ghost use Rattle.zarr_grids_cover.specs.Boxed.{AreBoxed};
-    ghost use Rattle.zarr_array_meaning.specs.Rewriting.{RewroteChunks, keyed_chunks};
+    ghost use Rattle.zarr_array_meaning.specs.Rewriting.{IsRewritten, RewroteChunks, keyed_chunks};
     ghost use Rattle.zarr_array_meaning.specs.StoreMaps.{CountsUpTo};
-    ghost use Rattle.zarr_array_core.specs.Arrays.{array_of, CalledMany, chunks_done, IfHonestErr, OnHonestOk};
-    ghost use Rattle.zarr_array_core.specs.Rewriting.{RewriteStops};
+    ghost use Rattle.zarr_array_storage.specs.Stores.{value_bytes};
+    ghost use Rattle.zarr_array_core.specs.Arrays.{array_of, Called, CalledMany, chunks_done, IfHonestErr, OnHonestOk};
+    ghost use Rattle.zarr_array_core.specs.Calls.{calls_of};
+    ghost use Rattle.zarr_array_core.specs.Rewriting.{ChunkRewriteStops, IsAbsentAt, RemakingStops, RewriteStops};
     ghost use Rattle.zarr_array_core.specs.Turns.{HadTurns, keyed_walk};
+    ghost use Rattle.zarr_array_core.specs.Views.{document_of};
 
     /// Stores each chunk in the grid anew that has a key, row-major: its cells are read and stored
     /// whole, so a chunk that is all fill loses its key, unless empty chunks are stored. `chunks`
@@ -79,7 +84,7 @@ impl<C: ArrayToBytesCodecTraits + Sync> ArrayCore<C> {
         let mut applied: u64 = 0;
         for n in 0..count {
             place_into(chunks.start(), chunks.shape(), count, n, chunk);
-            match self.rewrite_chunk(rooms, store, chunk, options) {
+            match self.rewrite_chunk(rt, rooms, store, chunk, options) {
                 Ok(had) => applied = counted_chunk(applied, had),
                 Err(error) => return Err(ManyError { applied, error }),
             }
@@ -87,21 +92,77 @@ impl<C: ArrayToBytesCodecTraits + Sync> ArrayCore<C> {
         rooms.keep_indices(room);
         Ok(())
     }
+    /// Stores a chunk anew, if it has a key; the answer is whether it has one.
+    fn rewrite_chunk<R: Threads + Sync, S: WritableStorageTraits>(
+        &self,
+        rt: &R,
+        rooms: &mut ChunkRooms,
+        store: &mut S,
+        chunk: &[u64],
+        options: &CodecOptions,
+    ) -> Result<bool, ChunkError>
+        requires below { (box : Region)
+            × IsInGrid (array_of C.ArrayToBytesCodecTraits self.now).document.grid chunk.now box }
+        ensures ok { IsTrue (S.is_honest store.old) → IfOk result (λ had. MatchBool had
+            (RewroteChunks (array_of C.ArrayToBytesCodecTraits self.now)
+            options.now.store_empty_chunks (chunk.now ∷ []) (S.held store.old) (S.held store.new))
+            (IsAbsentAt (array_of C.ArrayToBytesCodecTraits self.now) chunk.now
+            (S.held store.old) (S.held store.new))) }
+        ensures err { IfHonestErr S.ReadableStorageTraits store.old store.new result
+            (λ e before _. ChunkRewriteStops (array_of C.ArrayToBytesCodecTraits self.now)
+            options.now.store_empty_chunks chunk.now e before) }
+        ensures store { Called S.ReadableStorageTraits (calls_of result)
+            store.old store.new result }
+    {
+        let key = self.key_of(rooms.alloc(), chunk)?;
+        let Some(value) = get(store, &key)? else {
+            return Ok(false);
+        };
+        let own = self.box_of(rooms.take_own(), chunk)?;
+        let made = self.remake_value(rt, rooms.alloc(), value, own.shape(), options)?;
+        rooms.keep_own(own);
+        put_value(store, &key, made)?;
+        Ok(true)
+    }
+
+    /// The value of a chunk made anew of the cells that it is decoded to, or `None` where the chunk
+    /// is to have none.
+    fn remake_value<R: Threads + Sync>(
+        &self,
+        rt: &R,
+        alloc: Global,
+        value: Vec<u8>,
+        shape: &[u64],
+        options: &CodecOptions,
+    ) -> Result<Option<Vec<u8>>, ChunkError>
+        ensures ok { IfOk result (λ made. IsRewritten
+            (array_of C.ArrayToBytesCodecTraits self.now) options.now.store_empty_chunks
+            shape.now value.items (value_bytes made)) }
+        ensures err { IfErr result (RemakingStops (document_of C.meaning self.now)
+            options.now.store_empty_chunks shape.now value.items) }
+    {
+        if self.is_too_large(shape) {
+            return Err(ChunkError::Size);
+        }
+        if !self.codecs.fits(alloc, self.elements.data_type(), shape)? {
+            return Err(ChunkError::Fit);
+        }
+        let coding = Coding { rt, alloc, options };
+        let bytes = self.decode_value(&coding, value, shape)?;
+        self.encode_chunk(&coding, shape, bytes, options.store_empty_chunks)
+    }
 }
 
 impl<C: ArrayToBytesCodecTraits> ArrayCore<C> {
-    ghost use Rattle.std.specs.Prelude.{◌≡◌, ◌↔◌, ◌<◌, ◌^◌, [], ◌∷◌, IsTrue, IfOk, IfErr, MatchBool};
+    ghost use Rattle.std.specs.Prelude.{◌≡◌, ◌↔◌, ◌<◌, ◌^◌, IsTrue, IfOk, IfErr};
     ghost use Rattle.zarr_grids_boxes.specs.Boxes.{Region, product};
     ghost use Rattle.zarr_grids_boxes.specs.Subsets.{region_of};
     ghost use Rattle.zarr_grids_chunks.specs.Grids.{IsInGrid};
     ghost use Rattle.zarr_grids_cover.specs.Boxed.{AreBoxed};
-    ghost use Rattle.zarr_array_meaning.specs.Rewriting.{IsLargeKeyed, IsRewritten, RewroteChunks};
-    ghost use Rattle.zarr_array_storage.specs.Stores.{value_bytes};
-    ghost use Rattle.zarr_array_core.specs.Arrays.{array_of, Called, IfHonestErr};
-    ghost use Rattle.zarr_array_core.specs.Calls.{calls_of};
+    ghost use Rattle.zarr_array_meaning.specs.Rewriting.{IsLargeKeyed};
+    ghost use Rattle.zarr_array_core.specs.Arrays.{array_of, Called};
     ghost use Rattle.zarr_array_core.specs.Outcomes.{IsErasureStop, refused_after};
-    ghost use Rattle.zarr_array_core.specs.Rewriting.{ChunkRewriteStops, IsAbsentAt, IsLargeKeyedAt, RemakingStops};
-    ghost use Rattle.zarr_array_core.specs.Views.{document_of};
+    ghost use Rattle.zarr_array_core.specs.Rewriting.{IsLargeKeyedAt};
 
     /// Whether a chunk that has a key has 2^63 cells or bytes or more. `chunks` are all chunks in
     /// the grid that have a box. The store is asked only where one of them is so large.
@@ -167,62 +228,5 @@ impl<C: ArrayToBytesCodecTraits> ArrayCore<C> {
         let key = self.key_of(rooms.alloc(), chunk)?;
         let size = size_key(store, &key)?;
         Ok(size.is_some())
-    }
-
-    /// Stores a chunk anew, if it has a key; the answer is whether it has one.
-    fn rewrite_chunk<S: WritableStorageTraits>(
-        &self,
-        rooms: &mut ChunkRooms,
-        store: &mut S,
-        chunk: &[u64],
-        options: &CodecOptions,
-    ) -> Result<bool, ChunkError>
-        requires below { (box : Region)
-            × IsInGrid (array_of C.ArrayToBytesCodecTraits self.now).document.grid chunk.now box }
-        ensures ok { IsTrue (S.is_honest store.old) → IfOk result (λ had. MatchBool had
-            (RewroteChunks (array_of C.ArrayToBytesCodecTraits self.now)
-            options.now.store_empty_chunks (chunk.now ∷ []) (S.held store.old) (S.held store.new))
-            (IsAbsentAt (array_of C.ArrayToBytesCodecTraits self.now) chunk.now
-            (S.held store.old) (S.held store.new))) }
-        ensures err { IfHonestErr S.ReadableStorageTraits store.old store.new result
-            (λ e before _. ChunkRewriteStops (array_of C.ArrayToBytesCodecTraits self.now)
-            options.now.store_empty_chunks chunk.now e before) }
-        ensures store { Called S.ReadableStorageTraits (calls_of result)
-            store.old store.new result }
-    {
-        let key = self.key_of(rooms.alloc(), chunk)?;
-        let Some(value) = get(store, &key)? else {
-            return Ok(false);
-        };
-        let own = self.box_of(rooms.take_own(), chunk)?;
-        let made = self.remake_value(rooms.alloc(), value, own.shape(), options)?;
-        rooms.keep_own(own);
-        put_value(store, &key, made)?;
-        Ok(true)
-    }
-
-    /// The value of a chunk made anew of the cells that it is decoded to, or `None` where the chunk
-    /// is to have none.
-    fn remake_value(
-        &self,
-        alloc: Global,
-        value: Vec<u8>,
-        shape: &[u64],
-        options: &CodecOptions,
-    ) -> Result<Option<Vec<u8>>, ChunkError>
-        ensures ok { IfOk result (λ made. IsRewritten
-            (array_of C.ArrayToBytesCodecTraits self.now) options.now.store_empty_chunks
-            shape.now value.items (value_bytes made)) }
-        ensures err { IfErr result (RemakingStops (document_of C.meaning self.now)
-            options.now.store_empty_chunks shape.now value.items) }
-    {
-        if self.is_too_large(shape) {
-            return Err(ChunkError::Size);
-        }
-        if !self.codecs.fits(alloc, self.elements.data_type(), shape)? {
-            return Err(ChunkError::Fit);
-        }
-        let bytes = self.decode_value(alloc, value, shape, options)?;
-        self.encode_chunk(alloc, shape, bytes, options, options.store_empty_chunks)
     }
 }

@@ -85,6 +85,7 @@ impl<C: ArrayToBytesCodecTraits + Sync> ArrayCore<C> {
         let alloc = rooms.alloc();
         let effective = allowed_options(store, options);
         let write = BoxWrite {
+            rt,
             alloc,
             subset: target.region,
             region: Extent { start, shape },
@@ -95,7 +96,7 @@ impl<C: ArrayToBytesCodecTraits + Sync> ArrayCore<C> {
     }
 }
 
-impl<C: ArrayToBytesCodecTraits> ArrayCore<C> {
+impl<C: ArrayToBytesCodecTraits + Sync> ArrayCore<C> {
     ghost use Rattle.std.specs.Prelude.{◌≡◌, ◌<◌, true, length};
     ghost use Rattle.std.specs.List.{list_all};
     ghost use Rattle.zarr_grids_boxes.specs.Boxes.{Region, product};
@@ -113,11 +114,11 @@ impl<C: ArrayToBytesCodecTraits> ArrayCore<C> {
     ghost use Rattle.zarr_array_core.specs.Views.{array_cells, AreSoMany, document_of};
 
     /// Writes the elements of a box to each chunk that it intersects.
-    fn write_chunks<S: WritableStorageTraits>(
+    fn write_chunks<R: Threads + Sync, S: WritableStorageTraits>(
         &self,
         rooms: &mut ChunkRooms,
         store: &mut S,
-        write: &BoxWrite,
+        write: &BoxWrite<R>,
         chunks: &ArraySubset,
     ) -> Result<(), ManyError>
         requires rank { length write.now.region.start.now
@@ -161,11 +162,11 @@ impl<C: ArrayToBytesCodecTraits> ArrayCore<C> {
 
     /// Writes the elements of a box that lie in a chunk: a part of it into its shard, or its value.
     /// Which of both is decided before anything is fetched.
-    fn write_at<S: WritableStorageTraits>(
+    fn write_at<R: Threads + Sync, S: WritableStorageTraits>(
         &self,
         rooms: &mut ChunkRooms,
         store: &mut S,
-        write: &BoxWrite,
+        write: &BoxWrite<R>,
         chunk: &[u64],
     ) -> Result<(), ChunkError>
         requires below { (box : Region)

@@ -11,20 +11,18 @@ use zarr_calls_kinds::{
     Array, CountingSource, TestCodec, array_in, counting_in, json, places_in, put_or_not,
 };
 use zarr_codecs_arrays::CodecError;
-use zarr_codecs_options::CodecOptions;
 use zarr_codecs_traits::{ArrayToBytesCodecTraits, ByteRange, TargetBytes, WholeArray};
-use zarr_codecs_types::DataType;
 use zarr_grids_boxes::ArraySubset;
 use zarr_sharding_arrays::ArrayChain;
 use zarr_sharding_codec::ShardingCodec;
 use zarr_sharding_decoder::ShardingPartialDecoder;
 use zarr_sharding_index::ShardIndex;
 
-/// A shard whose index is kept, and the type of its elements.
+/// A shard whose index is kept, and its array.
 #[derive(Drop)]
 struct Decoding<'a, I: ArrayToBytesCodecTraits, X: ArrayToBytesCodecTraits> {
     decoder: ShardingPartialDecoder<'a, I, X, CountingSource>,
-    data_type: &'a DataType,
+    array: &'a Array,
 }
 
 /// What a call of the shard of a chain gives: `decoder` or `index`.
@@ -78,7 +76,7 @@ fn taken<R: Threads + Sync, I: ArrayToBytesCodecTraits + Sync, X: ArrayToBytesCo
     let (elements, shape) = (&array.elements, array.shape.as_slice());
     let whole = WholeArray { elements, shape };
     match ShardingPartialDecoder::new(alloc, codec, source, whole) {
-        Ok(decoder) => taken_by(rt, alloc, decoder, elements.data_type(), steps),
+        Ok(decoder) => taken_by(rt, alloc, decoder, array, steps),
         Err(error) => refused(alloc, &error),
     }
 }
@@ -91,10 +89,10 @@ fn taken_by<
     rt: &R,
     alloc: Global,
     decoder: ShardingPartialDecoder<'_, I, X, CountingSource>,
-    data_type: &DataType,
+    array: &Array,
     steps: &str,
 ) -> Result<String> {
-    let mut decoding = Decoding { decoder, data_type };
+    let mut decoding = Decoding { decoder, array };
     decoding.take_all(rt, alloc, steps)
 }
 
@@ -154,12 +152,12 @@ impl<I: ArrayToBytesCodecTraits + Sync, X: ArrayToBytesCodecTraits + Sync> Decod
     }
 
     fn read<R: Threads + Sync>(&mut self, rt: &R, alloc: Global, places: &str) -> Result<String> {
-        let (places, options) = (places_in(alloc, places)?, CodecOptions::default());
+        let (places, array) = (places_in(alloc, places)?, self.array);
         match self
             .decoder
-            .partial_decode(rt, alloc, places.indexer(), &options)
+            .partial_decode(rt, alloc, places.indexer(), &array.options)
         {
-            Ok(cells) => json(alloc, self.data_type, &cells),
+            Ok(cells) => json(alloc, array.elements.data_type(), &cells),
             Err(error) => refused(alloc, &error),
         }
     }
@@ -176,10 +174,10 @@ impl<I: ArrayToBytesCodecTraits + Sync, X: ArrayToBytesCodecTraits + Sync> Decod
             region: &region,
             width: 1,
         };
-        let (asked, options) = (places.indexer(), CodecOptions::default());
+        let (asked, options) = (places.indexer(), &self.array.options);
         let done = self
             .decoder
-            .partial_decode_into(rt, alloc, asked, &mut target, &options);
+            .partial_decode_into(rt, alloc, asked, &mut target, options);
         put_or_not(alloc, bytes.as_slice(), done)
     }
 

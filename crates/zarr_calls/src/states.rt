@@ -10,18 +10,16 @@ use zarr_calls_kinds::{
     places_in,
 };
 use zarr_codecs_arrays::CodecError;
-use zarr_codecs_options::CodecOptions;
 use zarr_codecs_traits::{ArrayToBytesCodecTraits, WholeArray};
-use zarr_codecs_types::DataType;
 use zarr_sharding_arrays::ArrayChain;
 use zarr_sharding_cells::ShardState;
 use zarr_sharding_codec::ShardingCodec;
 
-/// A shard that is kept open, and the type of its elements.
+/// A shard that is kept open, and its array.
 #[derive(Drop)]
 struct Kept<'a, I: ArrayToBytesCodecTraits, X: ArrayToBytesCodecTraits> {
     state: ShardState<'a, I, X, CountingSource>,
-    data_type: &'a DataType,
+    array: &'a Array,
 }
 
 /// What steps give that are taken over the shard of a chain, the value after them, and what its
@@ -79,7 +77,7 @@ fn over_source<
     let (elements, shape) = (&array.elements, array.shape.as_slice());
     let whole = WholeArray { elements, shape };
     match open(alloc, codec, source, whole) {
-        Ok(state) => taken(rt, alloc, state, elements.data_type(), steps),
+        Ok(state) => taken(rt, alloc, state, array, steps),
         Err((source, error)) => left_by(alloc, &error, source),
     }
 }
@@ -88,10 +86,10 @@ fn taken<R: Threads + Sync, I: ArrayToBytesCodecTraits + Sync, X: ArrayToBytesCo
     rt: &R,
     alloc: Global,
     state: ShardState<'_, I, X, CountingSource>,
-    data_type: &DataType,
+    array: &Array,
     steps: &str,
 ) -> Result<String> {
-    let mut kept = Kept { state, data_type };
+    let mut kept = Kept { state, array };
     let mut all = kept.take_all(rt, alloc, steps)?;
     let Kept { state, .. } = kept;
     push_word(&mut all, left(alloc, state.into_source())?.as_str())?;
@@ -145,12 +143,12 @@ impl<I: ArrayToBytesCodecTraits + Sync, X: ArrayToBytesCodecTraits + Sync> Kept<
     }
 
     fn read<R: Threads + Sync>(&mut self, rt: &R, alloc: Global, places: &str) -> Result<String> {
-        let (places, options) = (places_in(alloc, places)?, CodecOptions::default());
+        let (places, array) = (places_in(alloc, places)?, self.array);
         match self
             .state
-            .partial_decode(rt, alloc, places.indexer(), &options)
+            .partial_decode(rt, alloc, places.indexer(), &array.options)
         {
-            Ok(cells) => json(alloc, self.data_type, &cells),
+            Ok(cells) => json(alloc, array.elements.data_type(), &cells),
             Err(error) => refused(alloc, &error),
         }
     }
@@ -158,11 +156,11 @@ impl<I: ArrayToBytesCodecTraits + Sync, X: ArrayToBytesCodecTraits + Sync> Kept<
     fn put<R: Threads + Sync>(&mut self, rt: &R, alloc: Global, rest: &str) -> Result<String> {
         let (places, cells) = rest.split_once(" = ").context("a put has no elements")?;
         let places = places_in(alloc, places)?;
-        let cells = given_in(alloc, self.data_type, cells)?;
-        let options = CodecOptions::default();
+        let cells = given_in(alloc, self.array.elements.data_type(), cells)?;
+        let options = &self.array.options;
         let put = self
             .state
-            .partial_encode(rt, alloc, places.indexer(), cells, &options);
+            .partial_encode(rt, alloc, places.indexer(), cells, options);
         done(alloc, put)
     }
 }

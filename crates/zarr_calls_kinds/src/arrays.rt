@@ -12,11 +12,13 @@ use zarr_codecs_options::CodecOptions;
 use zarr_codecs_traits::{ArrayToBytesCodecTraits, WholeArray};
 use zarr_codecs_types::DataType;
 
-/// An array that a chain may encode: its elements and its shape.
+/// An array that a chain may encode: its elements, its shape, and the options that it is encoded and
+/// decoded with.
 #[derive(Drop)]
 pub struct Array {
     pub elements: Elements,
     pub shape: Vec<u64>,
+    pub options: CodecOptions,
 }
 
 /// The array as codecs take it.
@@ -53,10 +55,19 @@ pub fn array_in(alloc: Global, text: &str) -> Result<(Array, &str)> {
     Ok((shaped(alloc, elements, shape)?, rest))
 }
 
-/// The array of elements and of a shape.
-fn shaped(alloc: Global, elements: Elements, shape: &str) -> Result<Array> {
-    let shape = numbers_in(alloc, shape)?;
-    Ok(Array { elements, shape })
+/// The array of elements and of a shape, behind which ` workers` may stand.
+fn shaped(alloc: Global, elements: Elements, text: &str) -> Result<Array> {
+    let (text, workers) = match text.strip_suffix(" workers") {
+        Some(text) => (text, true),
+        None => (text, false),
+    };
+    let shape = numbers_in(alloc, text)?;
+    let options = CodecOptions::default().with_workers(workers);
+    Ok(Array {
+        elements,
+        shape,
+        options,
+    })
 }
 
 /// What cells are encoded to.
@@ -67,7 +78,7 @@ fn encoded<R: Threads + Sync, C: ArrayToBytesCodecTraits + Sync>(
     array: &Array,
     cells: ArrayBytes,
 ) -> Result<Vec<u8>, CodecError> {
-    chain.encode(rt, alloc, cells, whole(array), &CodecOptions::default())
+    chain.encode(rt, alloc, cells, whole(array), &array.options)
 }
 
 /// The value of cells.
@@ -93,7 +104,7 @@ fn decoded<R: Threads + Sync, C: ArrayToBytesCodecTraits + Sync>(
     array: &Array,
     value: Vec<u8>,
 ) -> Result<ArrayBytes, CodecError> {
-    chain.decode(rt, alloc, value, whole(array), &CodecOptions::default())
+    chain.decode(rt, alloc, value, whole(array), &array.options)
 }
 
 /// The cells of a value, as JSON or by their bytes.
@@ -128,7 +139,7 @@ fn compacted<R: Threads + Sync, C: ArrayToBytesCodecTraits + Sync>(
     array: &Array,
     value: &[u8],
 ) -> Result<Option<Vec<u8>>, CodecError> {
-    chain.compact(rt, alloc, value, whole(array), &CodecOptions::default())
+    chain.compact(rt, alloc, value, whole(array), &array.options)
 }
 
 /// The value with what it holds of shards written anew, or `none` where nothing is gained.

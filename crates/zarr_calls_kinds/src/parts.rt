@@ -12,7 +12,6 @@ use zarr_calls_grids::words::{
 };
 use zarr_codecs_arrays::{ArrayBytes, CodecError};
 use zarr_codecs_coders::{CodecPartialDecoder, CodecPartialEncoder};
-use zarr_codecs_options::CodecOptions;
 use zarr_codecs_traits::{
     ArrayPart, ArrayToBytesCodecTraits, Indexer, TargetBytes, ValuePatch, ValuePatches,
 };
@@ -100,10 +99,10 @@ fn cells_of<R: Threads + Sync, C: ArrayToBytesCodecTraits + Sync>(
     part: &Part,
     source: &mut CountingSource,
 ) -> Result<ArrayBytes, CodecError> {
-    let (options, asked) = (CodecOptions::default(), part.places.indexer());
+    let (options, asked) = (&part.array.options, part.places.indexer());
     let mut decoder = CodecPartialDecoder::new(chain, source, whole(&part.array));
-    match decoder.partial_decode(rt, alloc, asked, &options) {
-        Err(CodecError::Memory) => decoder.partial_decode(rt, alloc, asked, &options),
+    match decoder.partial_decode(rt, alloc, asked, options) {
+        Err(CodecError::Memory) => decoder.partial_decode(rt, alloc, asked, options),
         said => said,
     }
 }
@@ -157,11 +156,11 @@ fn put_cells<R: Threads + Sync, C: ArrayToBytesCodecTraits + Sync>(
     source: &mut CountingSource,
     cells: (ArrayBytes, ArrayBytes),
 ) -> Result<(), CodecError> {
-    let (options, places) = (CodecOptions::default(), part.places.indexer());
+    let (options, places) = (&part.array.options, part.places.indexer());
     let (cells, again) = cells;
     let mut encoder = CodecPartialEncoder::new(chain, source, whole(&part.array));
-    match encoder.partial_encode(rt, alloc, places, cells, &options) {
-        Err(CodecError::Memory) => encoder.partial_encode(rt, alloc, places, again, &options),
+    match encoder.partial_encode(rt, alloc, places, cells, options) {
+        Err(CodecError::Memory) => encoder.partial_encode(rt, alloc, places, again, options),
         said => said,
     }
 }
@@ -216,7 +215,7 @@ fn put_over<R: Threads + Sync, C: ArrayToBytesCodecTraits + Sync>(
     rt: &R,
     alloc: Global,
     decoder: &mut CodecPartialDecoder<'_, C, CountingSource>,
-    places: &Places,
+    part: &Part,
     bytes: &mut [u8],
 ) -> Result<(), CodecError> {
     let shape = [bytes.len() as u64];
@@ -227,13 +226,8 @@ fn put_over<R: Threads + Sync, C: ArrayToBytesCodecTraits + Sync>(
         region: &region,
         width: 1,
     };
-    decoder.partial_decode_into(
-        rt,
-        alloc,
-        places.indexer(),
-        &mut target,
-        &CodecOptions::default(),
-    )
+    let asked = part.places.indexer();
+    decoder.partial_decode_into(rt, alloc, asked, &mut target, &part.array.options)
 }
 
 /// Some bytes once cells are put over those inside, by a decoder that is asked once more where
@@ -242,13 +236,13 @@ fn put_over_at_last<R: Threads + Sync, C: ArrayToBytesCodecTraits + Sync>(
     rt: &R,
     alloc: Global,
     decoder: &mut CodecPartialDecoder<'_, C, CountingSource>,
-    places: &Places,
+    part: &Part,
     text: &str,
 ) -> Result<String> {
     let (old, mut bytes) = (bytes_in(alloc, text)?, bytes_in(alloc, text)?);
-    let mut done = put_over(rt, alloc, decoder, places, bytes.as_mut_slice());
+    let mut done = put_over(rt, alloc, decoder, part, bytes.as_mut_slice());
     if matches!(done, Err(CodecError::Memory)) && bytes.as_slice() == old.as_slice() {
-        done = put_over(rt, alloc, decoder, places, bytes.as_mut_slice());
+        done = put_over(rt, alloc, decoder, part, bytes.as_mut_slice());
     }
     put_or_not(alloc, bytes.as_slice(), done)
 }
@@ -273,7 +267,7 @@ fn into<R: Threads + Sync, C: ArrayToBytesCodecTraits + Sync>(
     let (value, bytes) = cut(rest)?;
     let mut source = counting_in(alloc, value)?;
     let mut decoder = CodecPartialDecoder::new(chain, &mut source, whole(&part.array));
-    put_over_at_last(rt, alloc, &mut decoder, &part.places, bytes)
+    put_over_at_last(rt, alloc, &mut decoder, &part, bytes)
 }
 
 /// What is written for cells at the places of a part.

@@ -15,3 +15,5 @@ pub mod Kept
 pub mod Left
 pub mod MovedNumbers
 pub mod MovedBoxes
+mod CutInside
+mod CutBefore

@@ -8,3 +8,4 @@ pub mod Boxes
 pub mod MovedNumbers
 pub mod MovedBoxes
 pub mod Parts
+pub mod Pieces

@@ -12,6 +12,7 @@ mod moved_boxes;
 mod moved_numbers;
 pub mod part_reading;
 pub mod part_writing;
+pub mod pieces_after;
 pub mod stored_parts;
 pub mod then_bytes;
 mod then_bytes_values;

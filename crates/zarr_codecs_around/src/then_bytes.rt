@@ -7,13 +7,14 @@ ghost use Rattle.zarr_codecs_around.specs.ThenBytes.{codec_of, then_meaning};
 
 use crate::byte_codecs::{copies, decode_all, encode_all, encode_made, represent_all};
 use crate::inner_codec::encode_row_major;
-use crate::stored_parts::decode_stored_part;
+use crate::stored_parts::{decode_stored_part, split_stored_part};
 use std::alloc::{AllocError, Global};
 use zarr_codecs_arrays::{ArrayBytes, CodecError, Elements};
 use zarr_codecs_regions::encode_whole;
 use zarr_codecs_traits::{
-    ArrayPart, ArrayToBytesCodecTraits, BytesPartialDecoderTraits, BytesPartialEncoderTraits,
-    BytesRepresentation, BytesToBytesCodecTraits, ValuePatches, WholeArray, read_value,
+    ArrayPart, ArrayPieces, ArrayToBytesCodecTraits, BytesPartialDecoderTraits,
+    BytesPartialEncoderTraits, BytesRepresentation, BytesToBytesCodecTraits, SplitArray,
+    SplitValue, ValuePatches, ValuePieces, WholeArray, read_value,
 };
 use zarr_codecs_types::DataType;
 use zarr_sharding_inner::InnerCodec;
@@ -70,14 +71,32 @@ impl<A: InnerCodec, B: BytesToBytesCodecTraits> ThenBytes<A, B> {
 }
 
 impl<A: InnerCodec, B: BytesToBytesCodecTraits> ArrayToBytesCodecTraits for ThenBytes<A, B> {
+    ghost use Rattle.std.specs.Prelude.{map};
     ghost use Rattle.zarr_codecs_around.specs.Copies.{then_copied};
-    ghost use Rattle.zarr_codecs_around.specs.ThenBytes.{then_function, then_lawful, then_meaning};
+    ghost use Rattle.zarr_codecs_around.specs.Pieces.{IsCutBefore, IsCutInside, IsPartCutInside, coded_by};
+    ghost use Rattle.zarr_codecs_around.specs.ThenBytes.{bytes_of, codec_of, then_function, then_lawful, then_meaning};
 
     ghost meaning = { then_meaning A.meaning B.meaning };
 
     ghost is_function = { then_function A.is_function };
 
     ghost copied = { then_copied A.copied B.meaning };
+
+    ghost cuts_value = { λ codec array value pieces. IsCutInside (A.cuts_value (codec_of codec)
+        (coded_by (A.meaning (codec_of codec)) array)) (map B.meaning (bytes_of codec)) value
+        pieces };
+
+    ghost cuts_part = { λ codec array stored asked pieces. IsPartCutInside
+        (λ inside. A.cuts_part (codec_of codec) (coded_by (A.meaning (codec_of codec)) array)
+        inside asked) (map B.meaning (bytes_of codec)) stored pieces };
+
+    ghost decodes_piece = { λ codec. A.decodes_piece (codec_of codec) };
+
+    ghost cuts_array = { λ codec array payload pieces. IsCutBefore (A.cuts_array (codec_of codec)
+        (coded_by (A.meaning (codec_of codec)) array) payload)
+        (map B.meaning (bytes_of codec)) (A.is_function (codec_of codec)) pieces };
+
+    ghost encodes_piece = { λ codec. A.encodes_piece (codec_of codec) };
 
     fn encoding_is_function(&self) -> bool {
         self.codec.encoding_is_function()
@@ -212,6 +231,122 @@ impl<A: InnerCodec, B: BytesToBytesCodecTraits> ArrayToBytesCodecTraits for Then
         }
         let array = WholeArray { elements, shape };
         compact_inside(self, alloc, value, array)
+    }
+
+    fn split_value(
+        &self,
+        alloc: Global,
+        value: Vec<u8>,
+        elements: &Elements,
+        shape: &[u64],
+    ) -> Result<SplitValue, CodecError> {
+        if !self.codec.fits(alloc, elements.data_type(), shape)? {
+            return Err(CodecError::Fit);
+        }
+        match decode_all(alloc, self.bytes_to_bytes.as_slice(), value) {
+            Ok(value) => self.codec.split_value(alloc, value, elements, shape),
+            Err(error) => Err(error),
+        }
+    }
+
+    fn split_part<D: BytesPartialDecoderTraits>(
+        &self,
+        alloc: Global,
+        source: &mut D,
+        part: ArrayPart<'_>,
+    ) -> Result<SplitValue, CodecError> {
+        if self.bytes_to_bytes.is_empty() {
+            return self.codec.split_part(alloc, source, part);
+        }
+        let codecs = self.bytes_to_bytes.as_slice();
+        match read_value(alloc, source) {
+            Ok(value) => split_stored_part(&self.codec, alloc, codecs, value, part),
+            Err(error) => Err(error),
+        }
+    }
+
+    fn decode_piece(
+        &self,
+        alloc: Global,
+        pieces: &ValuePieces,
+        n: usize,
+        elements: &Elements,
+    ) -> Result<ArrayBytes, CodecError> {
+        self.codec.decode_piece(alloc, pieces, n, elements)
+    }
+
+    fn put_pieces(
+        &self,
+        alloc: Global,
+        pieces: ValuePieces,
+        made: Vec<Result<ArrayBytes, CodecError>>,
+        elements: &Elements,
+        shape: &[u64],
+    ) -> Result<ArrayBytes, CodecError> {
+        self.codec.put_pieces(alloc, pieces, made, elements, shape)
+    }
+
+    fn put_part(
+        &self,
+        alloc: Global,
+        pieces: ValuePieces,
+        made: Vec<Result<ArrayBytes, CodecError>>,
+        part: ArrayPart<'_>,
+    ) -> Result<ArrayBytes, CodecError> {
+        self.codec.put_part(alloc, pieces, made, part)
+    }
+
+    fn split_array(
+        &self,
+        alloc: Global,
+        bytes: ArrayBytes,
+        elements: &Elements,
+        shape: &[u64],
+    ) -> Result<SplitArray, CodecError> {
+        if self.bytes_to_bytes.is_empty() {
+            return self.codec.split_array(alloc, bytes, elements, shape);
+        }
+        if !self.codec.encoding_is_function() {
+            return match self.encode_in_order(alloc, bytes, elements, shape) {
+                Ok(value) => Ok(SplitArray::Encoded(value)),
+                Err(error) => Err(error),
+            };
+        }
+        match self.codec.split_array(alloc, bytes, elements, shape) {
+            Ok(SplitArray::Encoded(value)) => {
+                match encode_made(alloc, self.bytes_to_bytes.as_slice(), Ok(value)) {
+                    Ok(made) => Ok(SplitArray::Encoded(made)),
+                    Err(error) => Err(error),
+                }
+            }
+            Ok(SplitArray::Cut(pieces)) => Ok(SplitArray::Cut(pieces)),
+            Err(error) => Err(error),
+        }
+    }
+
+    fn encode_piece(
+        &self,
+        alloc: Global,
+        pieces: &ArrayPieces,
+        n: usize,
+        elements: &Elements,
+    ) -> Result<Option<Vec<u8>>, CodecError> {
+        self.codec.encode_piece(alloc, pieces, n, elements)
+    }
+
+    fn join_pieces(
+        &self,
+        alloc: Global,
+        pieces: ArrayPieces,
+        made: Vec<Result<Option<Vec<u8>>, CodecError>>,
+        elements: &Elements,
+        shape: &[u64],
+    ) -> Result<Vec<u8>, CodecError> {
+        let joined = self.codec.join_pieces(alloc, pieces, made, elements, shape);
+        if self.bytes_to_bytes.is_empty() {
+            return joined;
+        }
+        encode_made(alloc, self.bytes_to_bytes.as_slice(), joined)
     }
 
     #[tactic(auto, using(crate::proofs::Copied::described_alike))]

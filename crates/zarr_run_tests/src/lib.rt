@@ -13,6 +13,8 @@ mod samples;
 #[cfg(test)]
 mod sessions;
 #[cfg(test)]
+mod shards;
+#[cfg(test)]
 mod streams;
 #[cfg(test)]
 mod test_store;

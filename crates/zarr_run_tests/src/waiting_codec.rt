@@ -1,4 +1,4 @@
-//! A codec on bytes whose decoding waits for another thread.
+//! A codec on bytes that waits for another thread.
 
 use std::alloc::{AllocError, Global};
 use std::sync::atomic::{AtomicU64, Ordering};
@@ -7,41 +7,38 @@ use zarr_run::{
     BytesRepresentation, BytesToBytesCodecTraits, CodecError, MetadataV3, PluginCreateError,
 };
 
-/// The codec `x-wait`: it leaves bytes as they are. Decoding waits until a second piece has come,
-/// for so many turns at most; then it notes that none came, and goes on. For the bytes 9, 9 it has
-/// no memory.
+/// The codec `x-wait`: it leaves bytes as they are. Encoding or decoding waits until a second piece
+/// has come; after so many turns, and for the bytes 9, 9 to decode, it has no memory.
 #[derive(Drop)]
 pub(crate) struct WaitingCodec {
     arrived: AtomicU64,
-    missed: AtomicU64,
-    turns: u64,
+    encoding_turns: u64,
+    decoding_turns: u64,
 }
 
 impl WaitingCodec {
-    /// A codec to which no piece has come.
-    pub(crate) fn new(turns: u64) -> WaitingCodec {
+    /// A codec to which no piece has come, and of which what waits for no turn doesn't wait.
+    pub(crate) fn new(encoding_turns: u64, decoding_turns: u64) -> WaitingCodec {
         WaitingCodec {
             arrived: AtomicU64::new(0),
-            missed: AtomicU64::new(0),
-            turns,
+            encoding_turns,
+            decoding_turns,
         }
     }
 
-    /// How many pieces waited in vain.
-    pub(crate) fn missed(&self) -> u64 {
-        self.missed.load(Ordering::SeqCst)
-    }
-
-    /// Waits until a second piece has come, or the turns are over.
-    fn wait(&self) {
+    /// Waits for so many turns until a second piece has come; whether one has, or nothing waits.
+    fn has_company(&self, turns: u64) -> bool {
+        if turns == 0 {
+            return true;
+        }
         self.arrived.fetch_add(1, Ordering::SeqCst);
-        for _ in 0..self.turns {
+        for _ in 0..turns {
             if self.arrived.load(Ordering::SeqCst) >= 2 {
-                return;
+                return true;
             }
             thread::yield_now();
         }
-        self.missed.fetch_add(1, Ordering::SeqCst);
+        false
     }
 }
 
@@ -56,12 +53,14 @@ impl BytesToBytesCodecTraits for WaitingCodec {
     ghost reads = { reads_waiting };
 
     fn encode(&self, alloc: Global, bytes: &[u8]) -> Result<Vec<u8>, CodecError> {
+        if !self.has_company(self.encoding_turns) {
+            return Err(CodecError::Memory);
+        }
         Ok(bytes.to_vec(alloc)?)
     }
 
     fn decode(&self, alloc: Global, bytes: &[u8]) -> Result<Vec<u8>, CodecError> {
-        self.wait();
-        if bytes == [9, 9].as_slice() {
+        if !self.has_company(self.decoding_turns) || bytes == [9, 9].as_slice() {
             return Err(CodecError::Memory);
         }
         Ok(bytes.to_vec(alloc)?)
@@ -78,10 +77,10 @@ impl BytesToBytesCodecTraits for WaitingCodec {
         Ok(MetadataV3::new(String::from_str(alloc, "x-wait")?))
     }
 
-    /// A codec that waits for no turn.
+    /// A codec that doesn't wait.
     fn create(_: Global, metadata: &MetadataV3) -> Result<Self, PluginCreateError> {
         if metadata.name() == "x-wait" {
-            Ok(WaitingCodec::new(0))
+            Ok(WaitingCodec::new(0, 0))
         } else {
             Err(PluginCreateError::NameUnsupported)
         }

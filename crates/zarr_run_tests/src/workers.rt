@@ -1,6 +1,6 @@
 //! Boxes read with workers: by several threads, with the answers that are given without them.
 
-use crate::samples::{CREATE, DONE, REOPEN, WRITE, has, has_keys, put, talks};
+use crate::samples::{DONE, REOPEN, WRITE, has, has_keys, put, talks};
 use crate::test_store::TestStore;
 use crate::waiting_codec::WaitingCodec;
 use serde_json::Value;
@@ -11,7 +11,7 @@ use zarr_array_metadata::{ArrayDocument, read_document};
 use zarr_codecs::{ArrayToBytesCodec, BytesCodec, CodecChain};
 use zarr_grids_keys::NodePath;
 use zarr_run::{
-    ArrayBytes, ArraySubset, CodecOptions, CommandCells, MemoryStore, ReverseCodec, Session,
+    ArrayBytes, ArraySubset, Cause, CodecOptions, CommandCells, MemoryStore, ReverseCodec, Session,
     run_lines,
 };
 use zarr_run_boxes::{CellWrite, read_box, write_box};
@@ -31,15 +31,18 @@ fn waiting_array(alloc: Global, turns: u64) -> Option<ArrayCore<CodecChain<Waiti
         elements,
         ..
     } = document;
-    let waiting = vec![in alloc; WaitingCodec::new(turns)].ok()?;
+    let waiting = vec![in alloc; WaitingCodec::new(0, turns)].ok()?;
     let bytes = ArrayToBytesCodec::Bytes(BytesCodec::new(None));
     let codecs = CodecChain::new(Vec::new(alloc), bytes, waiting);
     Some(ArrayCore::new(path, grid, keys, elements, codecs))
 }
 
-/// Writes 1 into each cell, and reads all with these options. Gives how many pieces waited in vain,
-/// where the cells come back.
-fn missed<R: AllocGlobal + Threads + Sync>(rt: &R, turns: u64, workers: bool) -> Option<u64> {
+/// Writes 1 into each cell, and reads all with these options.
+fn read_ones<R: AllocGlobal + Threads + Sync>(
+    rt: &R,
+    turns: u64,
+    workers: bool,
+) -> Option<Result<ArrayBytes, Cause>> {
     let alloc = rt.alloc();
     let array = waiting_array(alloc, turns)?;
     let (mut store, mut rooms) = (MemoryStore::new(alloc), ChunkRooms::new(alloc));
@@ -48,12 +51,7 @@ fn missed<R: AllocGlobal + Threads + Sync>(rt: &R, turns: u64, workers: bool) ->
     let cells = &CommandCells::Bytes(ArrayBytes::Fixed(vec![in alloc; 1u8; 8192].ok()?));
     let write = CellWrite { cells, options };
     write_box(rt, &mut rooms, &array, &mut store, &region, write).ok()?;
-    let read = read_box(rt, &mut rooms, &array, &mut store, &region, options).ok()?;
-    if !are_ones(&read) {
-        return None;
-    }
-    let codec = array.codecs().bytes_to_bytes_codecs().first()?;
-    Some(codec.missed())
+    Some(read_box(rt, &mut rooms, &array, &mut store, &region, options))
 }
 
 /// Whether these are 8,192 cells, each 1.
@@ -66,17 +64,23 @@ fn are_ones(read: &ArrayBytes) -> bool {
 
 #[test]
 fn chunks_are_decoded_by_several_threads(rt: HostRuntime) {
-    assert!(rt; matches!(missed(&rt, 1 << 26, true), Some(0)));
+    let found = read_ones(&rt, 1 << 26, true);
+    assert!(rt; matches!(&found, Some(Ok(read)) if are_ones(read)));
 }
 
 #[test]
 fn without_workers_chunks_are_decoded_one_after_another(rt: HostRuntime) {
-    assert!(rt; matches!(missed(&rt, 1 << 10, false), Some(1)));
+    let found = read_ones(&rt, 1 << 10, false);
+    assert!(rt; matches!(found, Some(Err(Cause::Memory))));
 }
 
-/// Reads the four chunks of `/a`, whose first is damaged; whether lines that don't say `workers`
-/// have it; and how many values are fetched as a whole: with workers all, else none, since `bytes`
-/// reads by ranges.
+/// Makes an array in four chunks, whose values have to be decoded.
+const CREATE: &str =
+    r#"{"op":"create","path":"/a","document":{"zarr_format":3,"node_type":"array","shape":[4,4],"data_type":"uint8","chunk_grid":{"name":"regular","configuration":{"chunk_shape":[2,2]}},"chunk_key_encoding":"default","fill_value":0,"codecs":[{"name":"transpose","configuration":{"order":[1,0]}},"bytes"]}}"#;
+
+/// Reads these chunks, whose first is damaged; whether lines that don't say `workers` have it; and
+/// how many values are fetched as a whole: with workers all, else none, since `bytes` reads by
+/// ranges.
 const READS: [(&str, bool, u64); 7] = [
     (
         r#"{"op":"read_box","path":"/a","box":[[0,4],[0,4]]}"#,

@@ -5,3 +5,4 @@ pub mod Reading
 pub mod Written
 pub mod CopiedPoints
 pub mod Crossing
+pub mod CutSharded

@@ -3,3 +3,4 @@ pub mod Views
 pub mod ArrayChains
 pub mod Metadata
 pub mod Refusals
+pub mod Pieces

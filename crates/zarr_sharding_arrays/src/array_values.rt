@@ -3,8 +3,9 @@ use crate::array_chain::ArrayChain;
 use std::alloc::{AllocError, Global};
 use zarr_codecs_arrays::{ArrayBytes, CodecError, Elements};
 use zarr_codecs_traits::{
-    ArrayPart, ArrayToBytesCodecTraits, BytesPartialDecoderTraits, BytesPartialEncoderTraits,
-    BytesRepresentation, BytesToBytesCodecTraits, ValuePatches,
+    ArrayPart, ArrayPieces, ArrayToBytesCodecTraits, BytesPartialDecoderTraits,
+    BytesPartialEncoderTraits, BytesRepresentation, BytesToBytesCodecTraits, SplitArray,
+    SplitValue, ValuePatches, ValuePieces,
 };
 use zarr_codecs_types::DataType;
 use zarr_sharding_inner::{ShardingCodecOptions, TakesShardingOptions};
@@ -12,12 +13,23 @@ use zarr_sharding_inner::{ShardingCodecOptions, TakesShardingOptions};
 impl<B: BytesToBytesCodecTraits> ArrayToBytesCodecTraits for ArrayChain<B> {
     ghost use Rattle.zarr_sharding_arrays.specs.ArrayChains.{array_function, array_lawful, array_meaning};
     ghost use Rattle.zarr_sharding_arrays.specs.Metadata.{IsArrayCopy};
+    ghost use Rattle.zarr_sharding_arrays.specs.Pieces.{DecodesOutermost, EncodesOutermost, SplitsOutermost, SplitsOutermostArray, SplitsOutermostPart, around_outermost};
 
     ghost meaning = { array_meaning B.meaning };
 
     ghost is_function = { array_function };
 
     ghost copied = { λ chain copy. IsArrayCopy B.meaning chain copy };
+
+    ghost cuts_value = { λ chain. SplitsOutermost (around_outermost B.meaning chain) };
+
+    ghost cuts_part = { λ chain. SplitsOutermostPart (around_outermost B.meaning chain) };
+
+    ghost decodes_piece = { λ chain. DecodesOutermost (around_outermost B.meaning chain) };
+
+    ghost cuts_array = { λ chain. SplitsOutermostArray (around_outermost B.meaning chain) };
+
+    ghost encodes_piece = { λ chain. EncodesOutermost (around_outermost B.meaning chain) };
 
     fn encoding_is_function(&self) -> bool {
         match self {
@@ -171,6 +183,119 @@ impl<B: BytesToBytesCodecTraits> ArrayToBytesCodecTraits for ArrayChain<B> {
             ArrayChain::Plain(chain) => chain.compact_in_order(alloc, value, elements, shape),
             ArrayChain::Sharded(chain) => chain.compact_in_order(alloc, value, elements, shape),
             ArrayChain::Nested(chain) => chain.compact_in_order(alloc, value, elements, shape),
+        }
+    }
+
+    fn split_value(
+        &self,
+        alloc: Global,
+        value: Vec<u8>,
+        elements: &Elements,
+        shape: &[u64],
+    ) -> Result<SplitValue, CodecError> {
+        match self {
+            ArrayChain::Plain(chain) => chain.split_value(alloc, value, elements, shape),
+            ArrayChain::Sharded(chain) => chain.split_value(alloc, value, elements, shape),
+            ArrayChain::Nested(chain) => chain.split_value(alloc, value, elements, shape),
+        }
+    }
+
+    fn split_part<D: BytesPartialDecoderTraits>(
+        &self,
+        alloc: Global,
+        source: &mut D,
+        part: ArrayPart<'_>,
+    ) -> Result<SplitValue, CodecError> {
+        match self {
+            ArrayChain::Plain(chain) => chain.split_part(alloc, source, part),
+            ArrayChain::Sharded(chain) => chain.split_part(alloc, source, part),
+            ArrayChain::Nested(chain) => chain.split_part(alloc, source, part),
+        }
+    }
+
+    fn decode_piece(
+        &self,
+        alloc: Global,
+        pieces: &ValuePieces,
+        n: usize,
+        elements: &Elements,
+    ) -> Result<ArrayBytes, CodecError> {
+        match self {
+            ArrayChain::Plain(chain) => chain.decode_piece(alloc, pieces, n, elements),
+            ArrayChain::Sharded(chain) => chain.decode_piece(alloc, pieces, n, elements),
+            ArrayChain::Nested(chain) => chain.decode_piece(alloc, pieces, n, elements),
+        }
+    }
+
+    fn put_pieces(
+        &self,
+        alloc: Global,
+        pieces: ValuePieces,
+        made: Vec<Result<ArrayBytes, CodecError>>,
+        elements: &Elements,
+        shape: &[u64],
+    ) -> Result<ArrayBytes, CodecError> {
+        match self {
+            ArrayChain::Plain(chain) => chain.put_pieces(alloc, pieces, made, elements, shape),
+            ArrayChain::Sharded(chain) => chain.put_pieces(alloc, pieces, made, elements, shape),
+            ArrayChain::Nested(chain) => chain.put_pieces(alloc, pieces, made, elements, shape),
+        }
+    }
+
+    fn put_part(
+        &self,
+        alloc: Global,
+        pieces: ValuePieces,
+        made: Vec<Result<ArrayBytes, CodecError>>,
+        part: ArrayPart<'_>,
+    ) -> Result<ArrayBytes, CodecError> {
+        match self {
+            ArrayChain::Plain(chain) => chain.put_part(alloc, pieces, made, part),
+            ArrayChain::Sharded(chain) => chain.put_part(alloc, pieces, made, part),
+            ArrayChain::Nested(chain) => chain.put_part(alloc, pieces, made, part),
+        }
+    }
+
+    fn split_array(
+        &self,
+        alloc: Global,
+        bytes: ArrayBytes,
+        elements: &Elements,
+        shape: &[u64],
+    ) -> Result<SplitArray, CodecError> {
+        match self {
+            ArrayChain::Plain(chain) => chain.split_array(alloc, bytes, elements, shape),
+            ArrayChain::Sharded(chain) => chain.split_array(alloc, bytes, elements, shape),
+            ArrayChain::Nested(chain) => chain.split_array(alloc, bytes, elements, shape),
+        }
+    }
+
+    fn encode_piece(
+        &self,
+        alloc: Global,
+        pieces: &ArrayPieces,
+        n: usize,
+        elements: &Elements,
+    ) -> Result<Option<Vec<u8>>, CodecError> {
+        match self {
+            ArrayChain::Plain(chain) => chain.encode_piece(alloc, pieces, n, elements),
+            ArrayChain::Sharded(chain) => chain.encode_piece(alloc, pieces, n, elements),
+            ArrayChain::Nested(chain) => chain.encode_piece(alloc, pieces, n, elements),
+        }
+    }
+
+    fn join_pieces(
+        &self,
+        alloc: Global,
+        pieces: ArrayPieces,
+        made: Vec<Result<Option<Vec<u8>>, CodecError>>,
+        elements: &Elements,
+        shape: &[u64],
+    ) -> Result<Vec<u8>, CodecError> {
+        match self {
+            ArrayChain::Plain(chain) => chain.join_pieces(alloc, pieces, made, elements, shape),
+            ArrayChain::Sharded(chain) => chain.join_pieces(alloc, pieces, made, elements, shape),
+            ArrayChain::Nested(chain) => chain.join_pieces(alloc, pieces, made, elements, shape),
         }
     }
 

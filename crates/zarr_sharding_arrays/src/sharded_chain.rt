@@ -9,6 +9,7 @@ use zarr_codecs_around::array_codecs::AfterArrayCodecs;
 use zarr_codecs_around::array_metadata::array_copies;
 use zarr_codecs_around::part_reading::decode_part_after;
 use zarr_codecs_around::part_writing::encode_part_after;
+use zarr_codecs_around::pieces_after::{join_after, put_after, split_after, split_array_after};
 use zarr_codecs_around::whole_arrays::{
     compact_after, decode_after, encode_after, fits_after, represent_after,
 };
@@ -17,8 +18,9 @@ use zarr_codecs_arrays::{ArrayBytes, CodecError, Elements};
 use zarr_codecs_chains::CodecChain;
 use zarr_codecs_regions::encode_whole;
 use zarr_codecs_traits::{
-    ArrayPart, ArrayToBytesCodecTraits, BytesPartialDecoderTraits, BytesPartialEncoderTraits,
-    BytesRepresentation, BytesToBytesCodecTraits, ValuePatches, WholeArray,
+    ArrayPart, ArrayPieces, ArrayToBytesCodecTraits, BytesPartialDecoderTraits,
+    BytesPartialEncoderTraits, BytesRepresentation, BytesToBytesCodecTraits, SplitArray,
+    SplitValue, ValuePatches, ValuePieces, WholeArray,
 };
 use zarr_codecs_types::DataType;
 use zarr_sharding_codec::ShardingCodec;
@@ -80,6 +82,7 @@ impl<B: BytesToBytesCodecTraits, I: InnerCodec> ShardedChain<B, I> {
 }
 
 impl<B: BytesToBytesCodecTraits, I: InnerCodec> ArrayToBytesCodecTraits for ShardedChain<B, I> {
+    ghost use Rattle.zarr_sharding_arrays.specs.Pieces.{DecodesSharded, EncodesSharded, SplitsSharded, SplitsShardedArray, SplitsShardedPart, around_shard};
     ghost use Rattle.zarr_sharding_arrays.specs.Views.{IsShardedCopy, sharded_function, sharded_lawful, sharded_meaning};
 
     ghost meaning = { sharded_meaning I.meaning B.meaning };
@@ -87,6 +90,21 @@ impl<B: BytesToBytesCodecTraits, I: InnerCodec> ArrayToBytesCodecTraits for Shar
     ghost is_function = { sharded_function I.is_function };
 
     ghost copied = { λ chain copy. IsShardedCopy I.copied B.meaning chain copy };
+
+    ghost cuts_value = { λ chain. SplitsSharded
+        (around_shard I.meaning I.is_function B.meaning chain) };
+
+    ghost cuts_part = { λ chain. SplitsShardedPart
+        (around_shard I.meaning I.is_function B.meaning chain) };
+
+    ghost decodes_piece = { λ chain. DecodesSharded
+        (around_shard I.meaning I.is_function B.meaning chain) };
+
+    ghost cuts_array = { λ chain. SplitsShardedArray
+        (around_shard I.meaning I.is_function B.meaning chain) };
+
+    ghost encodes_piece = { λ chain. EncodesSharded
+        (around_shard I.meaning I.is_function B.meaning chain) };
 
     fn encoding_is_function(&self) -> bool {
         self.others.encoding_is_function()
@@ -223,6 +241,121 @@ impl<B: BytesToBytesCodecTraits, I: InnerCodec> ArrayToBytesCodecTraits for Shar
             return compact_after(shard, alloc, codecs, value, array);
         }
         compact_after(&self.others, alloc, codecs, value, array)
+    }
+
+    fn split_value(
+        &self,
+        alloc: Global,
+        value: Vec<u8>,
+        elements: &Elements,
+        shape: &[u64],
+    ) -> Result<SplitValue, CodecError> {
+        let array_to_array = self.array_to_array.as_slice();
+        let rest = &self.others;
+        let chain = AfterArrayCodecs {
+            array_to_array,
+            rest,
+        };
+        let array = WholeArray { elements, shape };
+        split_after(chain, alloc, value, array)
+    }
+
+    fn split_part<D: BytesPartialDecoderTraits>(
+        &self,
+        alloc: Global,
+        source: &mut D,
+        part: ArrayPart<'_>,
+    ) -> Result<SplitValue, CodecError> {
+        if self.array_to_array.is_empty() {
+            return self.others.split_part(alloc, source, part);
+        }
+        match self.partial_decode_in_order(alloc, source, part) {
+            Ok(found) => Ok(SplitValue::Decoded(found)),
+            Err(error) => Err(error),
+        }
+    }
+
+    fn decode_piece(
+        &self,
+        alloc: Global,
+        pieces: &ValuePieces,
+        n: usize,
+        elements: &Elements,
+    ) -> Result<ArrayBytes, CodecError> {
+        self.others.decode_piece(alloc, pieces, n, elements)
+    }
+
+    fn put_pieces(
+        &self,
+        alloc: Global,
+        pieces: ValuePieces,
+        made: Vec<Result<ArrayBytes, CodecError>>,
+        elements: &Elements,
+        shape: &[u64],
+    ) -> Result<ArrayBytes, CodecError> {
+        let array_to_array = self.array_to_array.as_slice();
+        let rest = &self.others;
+        let chain = AfterArrayCodecs {
+            array_to_array,
+            rest,
+        };
+        let array = WholeArray { elements, shape };
+        put_after(chain, alloc, pieces, made, array)
+    }
+
+    fn put_part(
+        &self,
+        alloc: Global,
+        pieces: ValuePieces,
+        made: Vec<Result<ArrayBytes, CodecError>>,
+        part: ArrayPart<'_>,
+    ) -> Result<ArrayBytes, CodecError> {
+        self.others.put_part(alloc, pieces, made, part)
+    }
+
+    fn split_array(
+        &self,
+        alloc: Global,
+        bytes: ArrayBytes,
+        elements: &Elements,
+        shape: &[u64],
+    ) -> Result<SplitArray, CodecError> {
+        let array_to_array = self.array_to_array.as_slice();
+        let rest = &self.others;
+        let chain = AfterArrayCodecs {
+            array_to_array,
+            rest,
+        };
+        let array = WholeArray { elements, shape };
+        split_array_after(chain, alloc, bytes, array)
+    }
+
+    fn encode_piece(
+        &self,
+        alloc: Global,
+        pieces: &ArrayPieces,
+        n: usize,
+        elements: &Elements,
+    ) -> Result<Option<Vec<u8>>, CodecError> {
+        self.others.encode_piece(alloc, pieces, n, elements)
+    }
+
+    fn join_pieces(
+        &self,
+        alloc: Global,
+        pieces: ArrayPieces,
+        made: Vec<Result<Option<Vec<u8>>, CodecError>>,
+        elements: &Elements,
+        shape: &[u64],
+    ) -> Result<Vec<u8>, CodecError> {
+        let array_to_array = self.array_to_array.as_slice();
+        let rest = &self.others;
+        let chain = AfterArrayCodecs {
+            array_to_array,
+            rest,
+        };
+        let array = WholeArray { elements, shape };
+        join_after(chain, alloc, pieces, made, array)
     }
 
     fn try_clone(&self, alloc: Global) -> Result<ShardedChain<B, I>, AllocError> {

@@ -43,3 +43,12 @@ pub mod BoxCuts
 pub mod BoxRead
 pub mod BoxWritten
 pub mod AsIs
+mod MadePieces
+mod PutSlices
+mod PartFound
+mod SlicesRead
+mod PlacesCut
+mod CutValues
+mod CutArrays
+mod DecodedSlice
+mod CutPart

@@ -9,3 +9,4 @@ pub mod Appending
 pub mod BytesMet
 pub mod Configured
 pub mod BoxReading
+pub mod Pieces

@@ -1,15 +1,19 @@
 //! Shards as values of a codec between arrays and bytes.
 
 use crate::codec::ShardingCodec;
+use crate::cut_arrays::is_small;
+use crate::cut_parts::put_found;
 use crate::decoding::Shard;
+use crate::made_pieces::all_made;
 use crate::part_writing::TestedPart;
 use std::alloc::{AllocError, Global};
 use zarr_codecs_arrays::{ArrayBytes, CodecError, Elements};
 use zarr_codecs_options::SubchunkWriteOrder;
 use zarr_codecs_regions::{encode_whole, test_asked};
 use zarr_codecs_traits::{
-    ArrayPart, ArrayToBytesCodecTraits, BytesPartialDecoderTraits, BytesPartialEncoderTraits,
-    BytesRepresentation, ValuePatches, WholeArray,
+    ArrayPart, ArrayPieces, ArrayToBytesCodecTraits, BytesPartialDecoderTraits,
+    BytesPartialEncoderTraits, BytesRepresentation, SplitArray, SplitValue, ValuePatches,
+    ValuePieces, WholeArray,
 };
 use zarr_codecs_types::DataType;
 use zarr_grids_boxes::walk::count_places;
@@ -24,13 +28,29 @@ impl<I: ArrayToBytesCodecTraits, X: IndexCodec> ArrayToBytesCodecTraits for Shar
     ghost use Rattle.zarr_codecs_traits.specs.Arrays.{coded};
     ghost use Rattle.zarr_codecs_traits.specs.Outcomes.{Encodes};
     ghost use Rattle.zarr_sharding_codec.specs.Gapless.{IsGapless};
-    ghost use Rattle.zarr_sharding_codec.specs.Views.{index_of, makes_a_function, order_of, place_of_index, shard_chain, shard_copied, subchunk_of};
+    ghost use Rattle.zarr_sharding_codec.specs.Pieces.{DecodesPieceOf, IsCut, IsCutArray, IsCutPart, StoresPieceOf};
+    ghost use Rattle.zarr_sharding_codec.specs.Views.{index_of, inner_of, makes_a_function, order_of, place_of_index, shard_chain, shard_copied, subchunk_of};
 
     ghost meaning = { shard_chain I.meaning X.meaning };
 
     ghost is_function = { makes_a_function I.is_function X.is_function };
 
     ghost copied = { shard_copied I.copied X.copied };
+
+    ghost cuts_value = { λ codec array value pieces. IsCut array value pieces };
+
+    ghost cuts_part = { λ codec array stored asked pieces. IsCutPart array stored asked pieces };
+
+    ghost decodes_piece = { λ codec elements pieces n result. DecodesPieceOf
+        (coded (shard_chain I.meaning X.meaning codec) elements pieces.shape.items) pieces n
+        result };
+
+    ghost cuts_array = { λ codec array payload pieces. IsCutArray array payload pieces };
+
+    ghost encodes_piece = { λ codec elements pieces n result. StoresPieceOf
+        (I.is_function (inner_of codec))
+        (coded (shard_chain I.meaning X.meaning codec) elements pieces.shape.items) pieces n
+        result };
 
     fn encoding_is_function(&self) -> bool {
         matches!(self.subchunk_write_order, SubchunkWriteOrder::C)
@@ -190,6 +210,164 @@ impl<I: ArrayToBytesCodecTraits, X: IndexCodec> ArrayToBytesCodecTraits for Shar
             index_size: size,
         };
         compact_shard(alloc, &self.index_codecs, layout, value)
+    }
+
+    fn split_value(
+        &self,
+        alloc: Global,
+        value: Vec<u8>,
+        elements: &Elements,
+        shape: &[u64],
+    ) -> Result<SplitValue, CodecError> {
+        if self.inner_codecs.encodes_as_is() {
+            return match self.decode_in_order(alloc, value, elements, shape) {
+                Ok(found) => Ok(SplitValue::Decoded(found)),
+                Err(error) => Err(error),
+            };
+        }
+        let Some(size) = self.suited(alloc, elements.data_type(), shape)? else {
+            return Err(CodecError::Fit);
+        };
+        match self.cut_value(alloc, value, WholeArray { elements, shape }, size) {
+            Ok(pieces) => Ok(SplitValue::Cut(pieces)),
+            Err(error) => Err(error),
+        }
+    }
+
+    fn decode_piece(
+        &self,
+        alloc: Global,
+        pieces: &ValuePieces,
+        n: usize,
+        elements: &Elements,
+    ) -> Result<ArrayBytes, CodecError> {
+        let shape = pieces.shape.as_slice();
+        let slice = &pieces.slices[n];
+        let array = WholeArray { elements, shape };
+        self.decode_numbered(alloc, pieces.data.as_slice(), slice, array)
+    }
+
+    fn put_pieces(
+        &self,
+        alloc: Global,
+        pieces: ValuePieces,
+        made: Vec<Result<ArrayBytes, CodecError>>,
+        elements: &Elements,
+        shape: &[u64],
+    ) -> Result<ArrayBytes, CodecError> {
+        match all_made(alloc, made) {
+            Ok(found) => {
+                let slices = pieces.slices.as_slice();
+                let array = WholeArray { elements, shape };
+                self.put_slices(alloc, slices, found.as_slice(), array)
+            }
+            Err(error) => Err(error),
+        }
+    }
+
+    fn split_part<D: BytesPartialDecoderTraits>(
+        &self,
+        alloc: Global,
+        source: &mut D,
+        part: ArrayPart<'_>,
+    ) -> Result<SplitValue, CodecError> {
+        if self.inner_codecs.encodes_as_is() {
+            return match self.partial_decode_in_order(alloc, source, part) {
+                Ok(found) => Ok(SplitValue::Decoded(found)),
+                Err(error) => Err(error),
+            };
+        }
+        let Some(size) = self.suited(alloc, part.elements.data_type(), part.shape)? else {
+            return Err(CodecError::Fit);
+        };
+        if count_places(part.shape).is_none() {
+            return Err(CodecError::Size);
+        }
+        if let Err(error) = test_asked(part.shape, part.indexer) {
+            return Err(error);
+        }
+        self.cut_part(alloc, source, size, part)
+    }
+
+    fn put_part(
+        &self,
+        alloc: Global,
+        pieces: ValuePieces,
+        made: Vec<Result<ArrayBytes, CodecError>>,
+        part: ArrayPart<'_>,
+    ) -> Result<ArrayBytes, CodecError> {
+        let ValuePieces {
+            data: _,
+            shape: _,
+            slices,
+            stopped,
+        } = pieces;
+        let found = match all_made(alloc, made) {
+            Ok(found) => found,
+            Err(error) => return Err(error),
+        };
+        let (slices, found) = (slices.as_slice(), found.as_slice());
+        match stopped {
+            Some(error) => Err(error),
+            None => Ok(put_found(alloc, slices, found, part.elements, part.indexer)?),
+        }
+    }
+
+    fn split_array(
+        &self,
+        alloc: Global,
+        bytes: ArrayBytes,
+        elements: &Elements,
+        shape: &[u64],
+    ) -> Result<SplitArray, CodecError> {
+        if self.inner_codecs.encodes_as_is() || is_small(&bytes) {
+            return match self.encode_in_order(alloc, bytes, elements, shape) {
+                Ok(value) => Ok(SplitArray::Encoded(value)),
+                Err(error) => Err(error),
+            };
+        }
+        let data_type = elements.data_type();
+        if !self.fits(alloc, data_type, shape)? {
+            return Err(CodecError::Fit);
+        }
+        let Some(places) = count_places(shape) else {
+            return Err(CodecError::Size);
+        };
+        if let Err(error) = bytes.validate(data_type, places) {
+            return Err(error);
+        }
+        match self.cut_array(alloc, bytes, WholeArray { elements, shape }) {
+            Ok(pieces) => Ok(SplitArray::Cut(pieces)),
+            Err(error) => Err(error),
+        }
+    }
+
+    fn encode_piece(
+        &self,
+        alloc: Global,
+        pieces: &ArrayPieces,
+        n: usize,
+        elements: &Elements,
+    ) -> Result<Option<Vec<u8>>, CodecError> {
+        let shape = pieces.shape.as_slice();
+        self.store_numbered(alloc, &pieces.bytes, n, WholeArray { elements, shape })
+    }
+
+    fn join_pieces(
+        &self,
+        alloc: Global,
+        _: ArrayPieces,
+        made: Vec<Result<Option<Vec<u8>>, CodecError>>,
+        elements: &Elements,
+        shape: &[u64],
+    ) -> Result<Vec<u8>, CodecError> {
+        let Some(size) = self.suited(alloc, elements.data_type(), shape)? else {
+            return Err(CodecError::Fit);
+        };
+        match all_made(alloc, made) {
+            Ok(stored) => self.join_slices(alloc, stored, WholeArray { elements, shape }, size),
+            Err(error) => Err(error),
+        }
     }
 
     fn try_clone(&self, alloc: Global) -> Result<ShardingCodec<I, X>, AllocError>

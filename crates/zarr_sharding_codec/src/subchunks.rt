@@ -57,6 +57,39 @@ pub(crate) fn part_shape(
     Ok(region.shape)
 }
 
+/// The box of the subchunk with number `n`, row-major, of an array of this shape. `Err` also where
+/// the array has no such subchunk.
+pub(crate) fn numbered_region(
+    alloc: Global,
+    shape: &[u64],
+    subchunk: &ChunkShape,
+    n: u64,
+) -> Result<ArraySubset, AllocError>
+    ensures region { IfOk result
+        (λ region. region_of region ≡ subchunk_box shape.now subchunk.now n) }
+    ensures below { IfOk result (λ region. n < product (grid_of shape.now subchunk.now)) }
+{
+    let edges = subchunk.as_slice();
+    if shape.len() != edges.len() {
+        return Err(AllocError);
+    }
+    let counted = grid_of(alloc, shape, subchunk)?;
+    let grid = counted.as_slice();
+    let Some(count) = count_places(grid) else {
+        return Err(AllocError);
+    };
+    if n >= count {
+        return Err(AllocError);
+    }
+    let cut = CutArray {
+        shape,
+        edges,
+        grid,
+        count,
+    };
+    subchunk_region(alloc, cut, n)
+}
+
 /// The box of the subchunk with number `n`, row-major.
 pub(crate) fn subchunk_region(
     alloc: Global,

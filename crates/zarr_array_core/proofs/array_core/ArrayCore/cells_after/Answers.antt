@@ -20,4 +20,4 @@ returns-then-holds_box-clause-ok g c =
     (λ bytes law. (found, (λ honest. refl), law found)) c.whole_cells.ensures.ok
 
 pub whole_cells-requires-clause-some : goal.whole_cells-requires-clause-some
-whole_cells-requires-clause-some g c = shares_some (extent_of c.args.write.now.region) (region_of c.args.own.now) c.requires.writes.shares
+whole_cells-requires-clause-some g c κs within = shares_some (extent_of c.args.write.now.region) (region_of c.args.own.now) c.requires.writes.shares

@@ -12,4 +12,4 @@ overlap_in-requires g c =
     sharing_ranks region own (shares_own grid c.args.chunk.now region own c.in_ok-own.ensures.has_box c.requires.shares)
 
 pub part_of-requires-clause-small : goal.part_of-requires-clause-small
-part_of-requires-clause-small g c = c.requires.small.chunks c.args.chunk.now (region_of c.in_ok-own.own) c.in_ok-own.ensures c.requires.shares
+part_of-requires-clause-small g c = λ κs lives. c.requires.small.chunks c.args.chunk.now (region_of c.in_ok-own.own) c.in_ok-own.ensures c.requires.shares

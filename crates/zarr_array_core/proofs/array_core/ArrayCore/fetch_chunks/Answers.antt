@@ -1,8 +1,9 @@
-use Rattle.std.proofs.Common.{◌≡◌, ◌∙◌, ◌<◌, length, sym, ap, subst, refl, rules, arith}
+use Rattle.std.proofs.Common.{◌≡◌, ◌∙◌, ◌<◌, ℕ, length, sym, ap, subst, refl, rules, arith}
 use Rattle.zarr_grids_boxes.specs.Boxes.{Region, product}
 use Rattle.zarr_grids_boxes.specs.Subsets.{region_of}
 use Rattle.zarr_array_core.specs.Arrays.{array_of}
 use Rattle.zarr_array_core.specs.Fetching.{EachChunk, IsFetched, read_of}
+use Rattle.zarr_array_core.specs.Outcomes.{CountsStop}
 use Rattle.zarr_array_core.specs.Views.{document_of}
 use Rattle.zarr_array_core.proofs.Fetched.{fetched_all, fetched_more, fetched_until, no_chunk, same_read}
 use Rattle.zarr_array_core.proofs.NthChunks.{nth_here, shares_here}
@@ -28,7 +29,7 @@ fetch_chunk-requires-clause-below g c =
     let at_place = rw (c.start-first.ensures, c.shape-shape.ensures) at c.place_into.ensures in
     let total : c.unwrap-count.result ≡ product chunks.shape = search rules in
     let below : c.loop-n.n < product chunks.shape = omega (arith, c.loop-n-test.true) in
-    nth_here (document_of g.C.ArrayToBytesCodecTraits.meaning c.args.self.now).grid chunks c.loop-n.n c.place_into.new.place (sym c.args.read.chunks.now.same) c.requires.intersecting.below below at_place
+    λ κs lives. nth_here (document_of g.C.ArrayToBytesCodecTraits.meaning c.args.self.now).grid chunks c.loop-n.n c.place_into.new.place (sym c.args.read.chunks.now.same) c.requires.intersecting.below below at_place
 
 pub fetch_chunk-requires-clause-shares : goal.fetch_chunk-requires-clause-shares
 fetch_chunk-requires-clause-shares g c =
@@ -36,7 +37,7 @@ fetch_chunk-requires-clause-shares g c =
     let at_place = rw (c.start-first.ensures, c.shape-shape.ensures) at c.place_into.ensures in
     let total : c.unwrap-count.result ≡ product chunks.shape = search rules in
     let below : c.loop-n.n < product chunks.shape = omega (arith, c.loop-n-test.true) in
-    shares_here (document_of g.C.ArrayToBytesCodecTraits.meaning c.args.self.now).grid (region_of c.args.read.region.now) chunks c.loop-n.n c.place_into.new.place (sym c.args.read.chunks.now.same) c.requires.intersecting below at_place
+    λ κs lives. shares_here (document_of g.C.ArrayToBytesCodecTraits.meaning c.args.self.now).grid (region_of c.args.read.region.now) chunks c.loop-n.n c.place_into.new.place (sym c.args.read.chunks.now.same) c.requires.intersecting below at_place
 
 pub loop-n-preserved : goal.loop-n-preserved
 loop-n-preserved g c =
@@ -70,6 +71,18 @@ returns-in-Err-clause-fetched g c =
     let below : c.loop-n.n < product chunks.shape = omega (arith, c.loop-n-test.true) in
     let kept = c.loop-n.invariant in
     fetched_until first chunks c.loop-n.chunks.items c.loop-n.n c.place_into.new.place c.in-Err.error kept.each kept.long below at_place (λ honest. rw kept.held at (c.in-Err.ensures.err (rw kept.honest honest)))
+
+pub returns-in-Err-clause-store : goal.returns-in-Err-clause-store
+returns-in-Err-clause-store g c =
+    let s = g.S.ReadableStorageTraits in
+    let kept = c.loop-n.invariant in
+    let last = c.in-Err.ensures.store in
+    record {
+      held = last.held ∙ kept.held;
+      honest = last.honest ∙ kept.honest;
+      refused = subst (λ (n : ℕ). CountsStop c.in-Err.error n (s.refused_calls c.fetch_chunk.new.store)) kept.refused last.refused;
+      accepted = last.accepted ∙ kept.accepted;
+    }
 
 pub returns-clause-fetched : goal.returns-clause-fetched
 returns-clause-fetched g c =

@@ -1,4 +1,4 @@
-use Rattle.std.proofs.Common.{◌≡◌, ◌∙◌, ◌≤◌, ℕ, List, Option, Some, Ok, Err, subst, sym, ap}
+use Rattle.std.proofs.Common.{◌≡◌, ◌∙◌, ◌≤◌, ℕ, List, true, Option, Some, Ok, Err, subst, sym, ap}
 use Rattle.std.specs.FinMap.{get}
 use Rattle.zarr_grids_boxes.specs.Boxes.{Region, product}
 use Rattle.zarr_grids_boxes.specs.Cuts.{IsAtMost, overlapped}
@@ -6,7 +6,7 @@ use Rattle.zarr_grids_boxes.specs.Subsets.{region_of}
 use Rattle.zarr_codecs_arrays.specs.Outcomes.{IsCounted}
 use Rattle.zarr_codecs_arrays.specs.Views.{payload_of}
 use Rattle.zarr_codecs_arrays.specs.declared.array_bytes.ArrayBytes.{ArrayBytes}
-use Rattle.zarr_codecs_traits.specs.Indexers.{in_box}
+use Rattle.zarr_codecs_traits.specs.Indexers.{in_box, shape_has}
 use Rattle.zarr_codecs_traits.specs.Arrays.{coded}
 use Rattle.zarr_codecs_traits.specs.Outcomes.{IsPart}
 use Rattle.zarr_array_elements.proofs.Shared.{large_grows, shared_smaller}
@@ -30,7 +30,8 @@ pub decode_part-requires-clause-inside : goal.decode_part-requires-clause-inside
 decode_part-requires-clause-inside g c =
     let moved = rw c.start.ensures at c.seen_from-part.ensures in
     let meet = meets (region_of c.args.read.region.now) (region_of c.args.own.now) (region_of c.args.shared) (region_of c.seen_from-part.result) c.requires.shares c.requires.shared moved in
-    rw c.shape.ensures meet.inside
+    let inside : shape_has c.shape.result.now (region_of c.seen_from-part.result) ≡ true = rw c.shape.ensures meet.inside in
+    λ κs lives. inside
 
 pub returns-in-Err-clause-err : goal.returns-in-Err-clause-err
 returns-in-Err-clause-err g c = λ honest.

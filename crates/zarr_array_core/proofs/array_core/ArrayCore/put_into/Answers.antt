@@ -20,7 +20,7 @@ use Rattle.zarr_array_core.proofs.SeenFrom.{later_start}
 use Rattle.zarr_array_core.proofs.array_core.ArrayCore.put_into.Goals as goal
 
 pub whole_cells-requires-clause-small : goal.whole_cells-requires-clause-small
-whole_cells-requires-clause-small g c = λ large.
+whole_cells-requires-clause-small g c κs within = λ large.
     let document = document_of g.C.ArrayToBytesCodecTraits.meaning c.args.self.now in
     let region : Region = extent_of c.args.write.now.region in
     let box : Region = region_of c.args.own.now in
@@ -28,21 +28,21 @@ whole_cells-requires-clause-small g c = λ large.
     c.requires.writes.small (large_grows document.elements.type (product (overlapped region box).shape) (product box.shape) (shared_smaller region box c.requires.writes.shares) (subst (λ (r : Region). IsTooLarge document.elements.type (product r.shape)) shared large))
 
 pub whole_cells-requires-clause-some : goal.whole_cells-requires-clause-some
-whole_cells-requires-clause-some g c =
+whole_cells-requires-clause-some g c κs within =
     let region : Region = extent_of c.args.write.now.region in
     let box : Region = region_of c.args.own.now in
     let shared : region_of c.in_ok-shared.shared ≡ overlapped region box = shared_is (region_of c.args.write.now.subset.now) region box (region_of c.in_ok-shared.shared) c.args.write.now.same_box c.in_ok-shared.ensures in
     subst (λ (r : Region). 0 < product r.shape) (sym shared) (meeting region box c.requires.writes.shares).some
 
 pub whole_cells-requires-clause-rank : goal.whole_cells-requires-clause-rank
-whole_cells-requires-clause-rank g c =
+whole_cells-requires-clause-rank g c κs within =
     let region : Region = extent_of c.args.write.now.region in
     let box : Region = region_of c.args.own.now in
     let shared : region_of c.in_ok-shared.shared ≡ overlapped region box = shared_is (region_of c.args.write.now.subset.now) region box (region_of c.in_ok-shared.shared) c.args.write.now.same_box c.in_ok-shared.ensures in
     sym (ap (λ (r : Region). length r.start) shared ∙ starts_alike region box c.requires.writes.rank)
 
 pub whole_cells-requires-clause-holds : goal.whole_cells-requires-clause-holds
-whole_cells-requires-clause-holds g c =
+whole_cells-requires-clause-holds g c κs within =
     let region : Region = extent_of c.args.write.now.region in
     let box : Region = region_of c.args.own.now in
     let shared : region_of c.in_ok-shared.shared ≡ overlapped region box = shared_is (region_of c.args.write.now.subset.now) region box (region_of c.in_ok-shared.shared) c.args.write.now.same_box c.in_ok-shared.ensures in
@@ -55,8 +55,8 @@ seen_from-part-requires g c =
     let shared : region_of c.in_ok-shared.shared ≡ overlapped region box = shared_is (region_of c.args.write.now.subset.now) region box (region_of c.in_ok-shared.shared) c.args.write.now.same_box c.in_ok-shared.ensures in
     subst (λ (os : List ℕ). IsAtMost os c.in_ok-shared.shared.start.items) (sym c.start.ensures) (subst (λ (r : Region). IsAtMost box.start r.start) (sym shared) (later_start region.start box.start c.requires.writes.rank))
 
-pub encode_into-requires : goal.encode_into-requires
-encode_into-requires g c =
+pub encode_into-requires-clause-fixed : goal.encode_into-requires-clause-fixed
+encode_into-requires-clause-fixed g c κs within =
     let document = document_of g.C.ArrayToBytesCodecTraits.meaning c.args.self.now in
     let region : Region = extent_of c.args.write.now.region in
     let box : Region = region_of c.args.own.now in

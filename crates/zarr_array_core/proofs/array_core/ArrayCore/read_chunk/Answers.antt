@@ -1,4 +1,3 @@
-use Rattle.std.proofs.Common.{◌∙◌, sym}
 use Rattle.rayon.proofs.ListFacts.{IfOk-then}
 use Rattle.zarr_grids_boxes.specs.Subsets.{region_of}
 use Rattle.zarr_array_core.specs.Arrays.{array_of}
@@ -21,5 +20,7 @@ returns-clause-err g c = λ honest.
 
 pub returns-clause-store : goal.returns-clause-store
 returns-clause-store g c =
+    let s = g.S.ReadableStorageTraits in
     let read = c.in_ok-found.ensures.store in
-    record { held = read.held; honest = read.honest; refused = read.refused ∙ sym (memory_counts c.put_chunk_part.result (g.S.ReadableStorageTraits.refused_calls c.args.store.now) c.put_chunk_part.ensures.err); accepted = read.accepted }
+    let counts = memory_counts c.put_chunk_part.result (s.refused_calls c.args.store.now) (s.refused_calls c.chunk_part.new.store) read.refused c.put_chunk_part.ensures.err in
+    record { held = read.held; honest = read.honest; refused = counts; accepted = read.accepted }

@@ -4,6 +4,7 @@ use Rattle.std.proofs.lemmas.Iterator.Consumers.{YieldsList-end, YieldsList-turn
 use Rattle.zarr_grids_boxes.specs.Boxes.{Region}
 use Rattle.zarr_grids_boxes.specs.Subsets.{region_of}
 use Rattle.zarr_array_elements.specs.Views.{cells_shown}
+use Rattle.zarr_array_elements.specs.declared.box_elements.BoxElements.{BoxElements}
 use Rattle.zarr_array_elements.proofs.Shown.{length-shown}
 use Rattle.zarr_array_core.specs.Fetching.{IsOfDecoding, read_of}
 use Rattle.zarr_array_core.specs.Outcomes.{ReadStops}
@@ -104,7 +105,7 @@ returns-in-Some-stopped-clause-err g c = λ honest.
     (sym c.args.read.chunks.now.same) c.requires.intersecting are (sym c.loop-found.invariant.stopped ∙ c.in-Some-stopped.is) end.1 honest (c.loop-found.invariant.read honest)
 
 pub returns-in-Some-stopped-clause-store : goal.returns-in-Some-stopped-clause-store
-returns-in-Some-stopped-clause-store g c = only_read_until g.S.ReadableStorageTraits c.args.store.now c.fetch_chunks.new.store c.in_ok-chunks.field-0.stopped c.in-Some-stopped.error (sym c.loop-found.invariant.stopped ∙ c.in-Some-stopped.is) c.in_ok-chunks.ensures.store
+returns-in-Some-stopped-clause-store g c = only_read_until BoxElements g.S.ReadableStorageTraits c.args.store.now c.fetch_chunks.new.store c.in_ok-chunks.field-0.stopped c.in-Some-stopped.error (sym c.loop-found.invariant.stopped ∙ c.in-Some-stopped.is) c.in_ok-chunks.ensures.store
 
 pub returns-in-None-stopped-clause-ok : goal.returns-in-None-stopped-clause-ok
 returns-in-None-stopped-clause-ok g c = λ honest.

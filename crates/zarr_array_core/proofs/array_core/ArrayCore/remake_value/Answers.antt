@@ -25,7 +25,7 @@ returns-in_err-bytes-clause-err g c =
     IfErr-weaker c.from_residual-in_err-bytes.result (DecodeStops document shape (Some value)) (RemakingStops document empty shape value) (λ e is. decode_stops document empty shape value e fit is) told
 
 pub encode_chunk-requires-clause-values : goal.encode_chunk-requires-clause-values
-encode_chunk-requires-clause-values g c =
+encode_chunk-requires-clause-values g c κs within =
     let array : Array = array_of g.C.ArrayToBytesCodecTraits c.args.self.now in
     let document = array.document in
     let cells = array_cells c.args.self.now c.in_ok-bytes.bytes in

@@ -16,13 +16,13 @@ use Rattle.zarr_array_core.proofs.array_core.ArrayCore.rewrite.Goals as goal
 pub returns-then-is_err-clause-err : goal.returns-then-is_err-clause-err
 returns-then-is_err-clause-err g c = λ honest. stops_before (array_of g.C.ArrayToBytesCodecTraits c.args.self.now) c.args.options.now.store_empty_chunks (g.S.ReadableStorageTraits.held c.args.store.now)
 
-pub rewrite_chunk-requires : goal.rewrite_chunk-requires
-rewrite_chunk-requires g c =
+pub rewrite_chunk-requires-clause-below : goal.rewrite_chunk-requires-clause-below
+rewrite_chunk-requires-clause-below g c κs within =
     let chunks : Region = region_of c.args.chunks.now in
     let at_place = rw (c.start.ensures, c.shape-in-loop-n.ensures) at c.place_into.ensures in
     let total : c.unwrap-count.result ≡ product chunks.shape = search rules in
     let below : c.loop-n.n < product chunks.shape = omega (arith, c.loop-n-test.true) in
-    record { below = nth_here (array_of g.C.ArrayToBytesCodecTraits c.args.self.now).document.grid chunks c.loop-n.n c.place_into.new.place (sym c.args.chunks.now.same) c.requires.all.below below at_place }
+    nth_here (array_of g.C.ArrayToBytesCodecTraits c.args.self.now).document.grid chunks c.loop-n.n c.place_into.new.place (sym c.args.chunks.now.same) c.requires.all.below below at_place
 
 pub counted_chunk-applied-requires : goal.counted_chunk-applied-requires
 counted_chunk-applied-requires g c =

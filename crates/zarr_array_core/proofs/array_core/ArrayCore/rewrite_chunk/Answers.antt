@@ -52,4 +52,4 @@ returns-clause-ok g c = λ honest.
     let told : IsRewritten array empty c.shape.result.now value made = c.in_ok-made.ensures.ok in
     let here : IsRewritten array empty box.shape value made = subst (λ (s : List ℕ). IsRewritten array empty s value made) c.shape.ensures told in
     subst (λ (m : StoreMap). RewroteChunks array empty (c.args.chunk.now ∷ []) store m) (sym is)
-    (rewrote_one array empty c.args.chunk.now box value made store (array_known g.C.ArrayToBytesCodecTraits g.met.C.ArrayToBytesCodecTraits.lawful c.args.self.now) c.in_ok-own.ensures stored here)
+    (rewrote_one array empty c.args.chunk.now box value made store (array_known g.C.ArrayToBytesCodecTraits (g.met.C.ArrayToBytesCodecTraits g.world.𝓛 g.world.𝓜 g.world.𝓡 ((λ s x. x), (λ x. x), (λ x. x), λ x. x)).lawful c.args.self.now) c.in_ok-own.ensures stored here)

@@ -21,7 +21,7 @@ use Rattle.zarr_array_core.proofs.PutParts.{fills_bytes}
 use Rattle.zarr_array_core.proofs.array_core.ArrayCore.value_with_part.Goals as goal
 
 pub encode_value-requires-clause-values : goal.encode_value-requires-clause-values
-encode_value-requires-clause-values g c =
+encode_value-requires-clause-values g c κs within =
     let document = document_of g.C.ArrayToBytesCodecTraits.meaning c.args.self.now in
     ap (list_all (is_value document.elements.type)) c.in_ok-fill-in-None.ensures.fill ∙ all_filled (is_value document.elements.type) document.elements.fill c.unwrap-count.result c.args.self.now.elements.fills
 
@@ -76,7 +76,7 @@ returns-in_ok-fill-in-None-clause-ok g c =
     (λ (value : Vec ℕ Global). is_lossless document.chain document.elements.type ≡ true → Stands document.chain document.elements shape value.items filled)
     (λ (value : Vec ℕ Global). PutsCells write box stored (Some value.items))
     (λ value stands.
-    (fills_bytes write box stored value.items (g.met.C.ArrayToBytesCodecTraits.lawful c.args.self.now.codecs) is
+    (fills_bytes write box stored value.items ((g.met.C.ArrayToBytesCodecTraits g.world.𝓛 g.world.𝓜 g.world.𝓡 ((λ s x. x), (λ x. x), (λ x. x), λ x. x)).lawful c.args.self.now.codecs) is
     (λ lossless. subst (λ (s : List ℕ). Stands document.chain document.elements s value.items (replicate (product box.shape) fill)) c.shape-in-None.ensures
     (subst (λ (cells : List Cell). Stands document.chain document.elements shape value.items cells) all (stands lossless)))
     puts).0)
@@ -103,7 +103,7 @@ returns-in_ok-fill-in-None-clause-bytes g c =
     (λ (value : Vec ℕ Global). is_lossless document.chain document.elements.type ≡ true → Stands document.chain document.elements shape value.items filled)
     (λ (value : Vec ℕ Global). KeepsBytes write box stored (Some value.items))
     (λ value stands.
-    (fills_bytes write box stored value.items (g.met.C.ArrayToBytesCodecTraits.lawful c.args.self.now.codecs) is
+    (fills_bytes write box stored value.items ((g.met.C.ArrayToBytesCodecTraits g.world.𝓛 g.world.𝓜 g.world.𝓡 ((λ s x. x), (λ x. x), (λ x. x), λ x. x)).lawful c.args.self.now.codecs) is
     (λ lossless. subst (λ (s : List ℕ). Stands document.chain document.elements s value.items (replicate (product box.shape) fill)) c.shape-in-None.ensures
     (subst (λ (cells : List Cell). Stands document.chain document.elements shape value.items cells) all (stands lossless)))
     puts).1)

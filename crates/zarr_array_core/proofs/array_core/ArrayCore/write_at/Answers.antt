@@ -14,8 +14,8 @@ use Rattle.zarr_array_core.proofs.ShardWritten.{changed_alike, writes_into, writ
 use Rattle.zarr_array_core.proofs.array_core.ArrayCore.write_at.Goals as goal
 use Rattle.zarr_array_core.proofs.array_core.ArrayCore.write_at.Goals.{then-branch+in_ok-put_into_shard, else-branch+in_ok-patch_chunk+then-not-branch+in_ok-write_chunk, else-branch+in_ok-patch_chunk+else-not-branch}
 
-pub write_chunk-requires : goal.write_chunk-requires
-write_chunk-requires g c =
+pub write_chunk-requires-clause-writes : goal.write_chunk-requires-clause-writes
+write_chunk-requires-clause-writes g c κs within =
     let document = document_of g.C.ArrayToBytesCodecTraits.meaning c.args.self.now in
     record {
       small = c.requires.small.chunks c.args.chunk.now (region_of c.in_ok-own.own) c.in_ok-own.ensures c.requires.shares;
@@ -25,8 +25,8 @@ write_chunk-requires g c =
       values = c.requires.values;
     }
 
-pub patch_chunk-requires : goal.patch_chunk-requires
-patch_chunk-requires g c =
+pub patch_chunk-requires-clause-writes : goal.patch_chunk-requires-clause-writes
+patch_chunk-requires-clause-writes g c κs within =
     let document = document_of g.C.ArrayToBytesCodecTraits.meaning c.args.self.now in
     record {
       small = c.requires.small.chunks c.args.chunk.now (region_of c.in_ok-own.own) c.in_ok-own.ensures c.requires.shares;
@@ -37,15 +37,15 @@ patch_chunk-requires g c =
     }
 
 pub is_into_shard-requires-clause-rank : goal.is_into_shard-requires-clause-rank
-is_into_shard-requires-clause-rank g c =
+is_into_shard-requires-clause-rank g c κs within =
     let document = document_of g.C.ArrayToBytesCodecTraits.meaning c.args.self.now in
     c.requires.rank ∙ sym (chunk_box-rank document.grid c.args.chunk.now (region_of c.in_ok-own.own) c.in_ok-own.ensures.has_box).0
 
 pub is_into_shard-requires-clause-small : goal.is_into_shard-requires-clause-small
-is_into_shard-requires-clause-small g c = c.requires.small.chunks c.args.chunk.now (region_of c.in_ok-own.own) c.in_ok-own.ensures c.requires.shares
+is_into_shard-requires-clause-small g c κs within = c.requires.small.chunks c.args.chunk.now (region_of c.in_ok-own.own) c.in_ok-own.ensures c.requires.shares
 
 pub put_into_shard-requires-clause-writes : goal.put_into_shard-requires-clause-writes
-put_into_shard-requires-clause-writes g c =
+put_into_shard-requires-clause-writes g c κs within =
     let document = document_of g.C.ArrayToBytesCodecTraits.meaning c.args.self.now in
     record {
       small = c.requires.small.chunks c.args.chunk.now (region_of c.in_ok-own.own) c.in_ok-own.ensures c.requires.shares;

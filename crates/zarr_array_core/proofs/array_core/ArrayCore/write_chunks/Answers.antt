@@ -11,7 +11,7 @@ use Rattle.zarr_array_core.specs.declared.error.ChunkError.TheVariants as error
 use Rattle.zarr_array_core.proofs.BoxWalks.{walk_of}
 use Rattle.zarr_array_core.proofs.ChunksWritten.{wrote_none, wrote_next, wrote_all, write_stops}
 use Rattle.zarr_array_core.proofs.NthChunks.{nth_here, shares_here}
-use Rattle.zarr_array_core.proofs.Turns.{once_at, turn_next, turns_all, turns_stop}
+use Rattle.zarr_array_core.proofs.Turns.{counts_none, once_at, turn_next, turns_all, turns_none, turns_stop}
 use Rattle.zarr_array_core.proofs.array_core.ArrayCore.write_chunks.Goals as goal
 
 pub returns-then-is_err-clause-err : goal.returns-then-is_err-clause-err
@@ -20,14 +20,26 @@ returns-then-is_err-clause-err g c = λ honest.
     let write = write_of g.C.ArrayToBytesCodecTraits array c.args.write.now in
     let chunks : Region = region_of c.args.chunks.now in
     let old = g.S.ReadableStorageTraits.held c.args.store.now in
-    let walk = walk_of g.C.ArrayToBytesCodecTraits g.met.C.ArrayToBytesCodecTraits.lawful array c.args.write.now chunks (sym c.args.write.now.region.same) (sym c.args.chunks.now.same) c.requires.rank c.requires.intersecting c.requires.values in
+    let walk = walk_of g.C.ArrayToBytesCodecTraits (g.met.C.ArrayToBytesCodecTraits g.world.𝓛 g.world.𝓜 g.world.𝓡 ((λ s x. x), (λ x. x), (λ x. x), λ x. x)).lawful array c.args.write.now chunks (sym c.args.write.now.region.same) (sym c.args.chunks.now.same) c.requires.rank c.requires.intersecting c.requires.values in
     let lists = c.requires.many.lists in
     let chunk = place_at chunks.start chunks.shape 0 in
     let here = nth_here write.array.document.grid chunks 0 chunk walk.chunks_rank walk.intersecting.below c.requires.some refl in
     write_stops write chunks (payload_of c.args.write.now.bytes.now) 0 chunk here.0 error.Memory old old old walk lists c.requires.some refl here.1 tt refl (wrote_none write old)
 
+pub loop-n-init : goal.loop-n-init
+loop-n-init g c =
+    let array = c.args.self.now in
+    let store = c.args.store.now in
+    record {
+      wrote = λ honest. wrote_none (write_of g.C.ArrayToBytesCodecTraits array c.args.write.now) (g.S.ReadableStorageTraits.held store);
+      turns = λ honest. turns_none g.S.ReadableStorageTraits (array_of g.C.ArrayToBytesCodecTraits array) store;
+      honest = refl;
+      refused = refl;
+      counts = counts_none (g.S.ReadableStorageTraits.accepted_writes store);
+    }
+
 pub write_at-requires-clause-below : goal.write_at-requires-clause-below
-write_at-requires-clause-below g c =
+write_at-requires-clause-below g c κs within =
     let chunks : Region = region_of c.args.chunks.now in
     let at_place = rw (c.start.ensures, c.shape-in-loop-n.ensures) at c.place_into.ensures in
     let total : c.unwrap-count.result ≡ product chunks.shape = search rules in
@@ -35,7 +47,7 @@ write_at-requires-clause-below g c =
     nth_here (document_of g.C.ArrayToBytesCodecTraits.meaning c.args.self.now).grid chunks c.loop-n.n c.place_into.new.place (sym c.args.chunks.now.same) c.requires.intersecting.below below at_place
 
 pub write_at-requires-clause-shares : goal.write_at-requires-clause-shares
-write_at-requires-clause-shares g c =
+write_at-requires-clause-shares g c κs within =
     let chunks : Region = region_of c.args.chunks.now in
     let at_place = rw (c.start.ensures, c.shape-in-loop-n.ensures) at c.place_into.ensures in
     let total : c.unwrap-count.result ≡ product chunks.shape = search rules in
@@ -48,7 +60,7 @@ returns-in-Err-clause-err g c = λ honest.
     let write = write_of g.C.ArrayToBytesCodecTraits array c.args.write.now in
     let chunks : Region = region_of c.args.chunks.now in
     let old = g.S.ReadableStorageTraits.held c.args.store.now in
-    let walk = walk_of g.C.ArrayToBytesCodecTraits g.met.C.ArrayToBytesCodecTraits.lawful array c.args.write.now chunks (sym c.args.write.now.region.same) (sym c.args.chunks.now.same) c.requires.rank c.requires.intersecting c.requires.values in
+    let walk = walk_of g.C.ArrayToBytesCodecTraits (g.met.C.ArrayToBytesCodecTraits g.world.𝓛 g.world.𝓜 g.world.𝓡 ((λ s x. x), (λ x. x), (λ x. x), λ x. x)).lawful array c.args.write.now chunks (sym c.args.write.now.region.same) (sym c.args.chunks.now.same) c.requires.rank c.requires.intersecting c.requires.values in
     let lists = c.requires.many.lists in
     let mid = g.S.ReadableStorageTraits.held c.loop-n.store in
     let new = g.S.ReadableStorageTraits.held c.write_at.new.store in
@@ -65,7 +77,7 @@ loop-n-preserved g c =
     let write = write_of g.C.ArrayToBytesCodecTraits array c.args.write.now in
     let chunks : Region = region_of c.args.chunks.now in
     let old = g.S.ReadableStorageTraits.held c.args.store.now in
-    let walk = walk_of g.C.ArrayToBytesCodecTraits g.met.C.ArrayToBytesCodecTraits.lawful array c.args.write.now chunks (sym c.args.write.now.region.same) (sym c.args.chunks.now.same) c.requires.rank c.requires.intersecting c.requires.values in
+    let walk = walk_of g.C.ArrayToBytesCodecTraits (g.met.C.ArrayToBytesCodecTraits g.world.𝓛 g.world.𝓜 g.world.𝓡 ((λ s x. x), (λ x. x), (λ x. x), λ x. x)).lawful array c.args.write.now chunks (sym c.args.write.now.region.same) (sym c.args.chunks.now.same) c.requires.rank c.requires.intersecting c.requires.values in
     let mid = g.S.ReadableStorageTraits.held c.loop-n.store in
     let new = g.S.ReadableStorageTraits.held c.write_at.new.store in
     let at_place = rw (c.start.ensures, c.shape-in-loop-n.ensures) at c.place_into.ensures in
@@ -122,7 +134,7 @@ returns-clause-ok g c = λ honest.
     let write = write_of g.C.ArrayToBytesCodecTraits array c.args.write.now in
     let chunks : Region = region_of c.args.chunks.now in
     let old = g.S.ReadableStorageTraits.held c.args.store.now in
-    let walk = walk_of g.C.ArrayToBytesCodecTraits g.met.C.ArrayToBytesCodecTraits.lawful array c.args.write.now chunks (sym c.args.write.now.region.same) (sym c.args.chunks.now.same) c.requires.rank c.requires.intersecting c.requires.values in
+    let walk = walk_of g.C.ArrayToBytesCodecTraits (g.met.C.ArrayToBytesCodecTraits g.world.𝓛 g.world.𝓜 g.world.𝓡 ((λ s x. x), (λ x. x), (λ x. x), λ x. x)).lawful array c.args.write.now chunks (sym c.args.write.now.region.same) (sym c.args.chunks.now.same) c.requires.rank c.requires.intersecting c.requires.values in
     let total : c.unwrap-count.result ≡ product chunks.shape = search rules in
     wrote_all write chunks c.loop-n.n old (g.S.ReadableStorageTraits.held c.loop-n.store) walk (omega arith) (c.loop-n.invariant.wrote honest)
 

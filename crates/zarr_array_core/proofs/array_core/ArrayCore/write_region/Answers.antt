@@ -13,17 +13,17 @@ use Rattle.zarr_array_elements.proofs.FixedPuts.{counted, known}
 use Rattle.zarr_array_core.proofs.array_core.ArrayCore.write_region.Goals as goal
 
 pub write_chunks-requires-clause-some : goal.write_chunks-requires-clause-some
-write_chunks-requires-clause-some g c =
+write_chunks-requires-clause-some g c κs within =
     some_chunk (document_of g.C.ArrayToBytesCodecTraits.meaning c.args.self.now).grid (region_of c.args.target.region.now) (region_of c.args.target.chunks.now) c.args.target.region.now.same (sym c.args.target.chunks.now.same) c.requires.some c.requires.covered c.requires.intersecting
 
 pub write_chunks-requires-clause-many : goal.write_chunks-requires-clause-many
-write_chunks-requires-clause-many g c =
+write_chunks-requires-clause-many g c κs within =
     let type = (document_of g.C.ArrayToBytesCodecTraits.meaning c.args.self.now).elements.type in
     let valid = c.requires.valid.1 in
     counted type (payload_of c.args.target.bytes.now) c.requires.valid.0 _ valid.is.lists (valid.is.many ∙ ap product (sym c.shape-shape.ensures))
 
 pub write_chunks-requires-clause-values : goal.write_chunks-requires-clause-values
-write_chunks-requires-clause-values g c =
+write_chunks-requires-clause-values g c κs within =
     let type = (document_of g.C.ArrayToBytesCodecTraits.meaning c.args.self.now).elements.type in
     let valid = c.requires.valid.1 in
     ap (list_all (is_value type)) (known type (payload_of c.args.target.bytes.now) c.requires.valid.0 valid.is.lists) ∙ valid.values

@@ -1,0 +1,83 @@
+use Rattle.std.proofs.Common.{◌∙◌, [], List, ℕ, Option, Some, IsTrue, ap, replicate, refl, subst, sym, unwrap_or}
+use Rattle.zarr_codecs_arrays.specs.Views.{elements_of}
+use Rattle.zarr_codecs_meaning.specs.Chains.{sharded}
+use Rattle.zarr_codecs_meaning.specs.Places.{grid_of, index_shape}
+use Rattle.zarr_codecs_meaning.proofs.Parts.{length-parts}
+use Rattle.zarr_codecs_traits.specs.Arrays.{coded}
+use Rattle.zarr_codecs_traits.specs.Indexers.{asked_of, numbers_asked}
+use Rattle.zarr_grids_boxes.specs.Boxes.{product}
+use Rattle.zarr_sharding_index.specs.Present.{all_pairs}
+use Rattle.zarr_sharding_index.specs.Views.{location_of}
+use Rattle.zarr_sharding_codec.specs.Pieces.{ArePartRead, asked_part}
+use Rattle.zarr_sharding_codec.specs.Reading.{HasPairs}
+use Rattle.zarr_sharding_codec.proofs.EncodedShard.{index_part}
+use Rattle.zarr_sharding_codec.proofs.PartsRead.{fetched_nothing, fetched_value, part_filled, value_total}
+use Rattle.zarr_sharding_codec.proofs.StoredLoop.{rank_fits}
+use Rattle.zarr_sharding_codec.proofs.codec.ShardingCodec.cut_part.Goals as goal
+
+pub open_index-requires-clause-rank : goal.open_index-requires-clause-rank
+open_index-requires-clause-rank g c =
+    let self = c.args.self.now in
+    let subchunk = self.subchunk_shape in
+    let inner = g.I.ArrayToBytesCodecTraits.meaning self.inner_codecs in
+    let index = g.X.ArrayToBytesCodecTraits.meaning self.index_codecs in
+    let location = location_of self.index_location in
+    rank_fits subchunk inner index location (elements_of c.args.part.elements.now) c.args.part.shape.now c.requires.fit
+
+pub open_index-requires-clause-fit : goal.open_index-requires-clause-fit
+open_index-requires-clause-fit g c =
+    let self = c.args.self.now in
+    let subchunk = self.subchunk_shape in
+    let inner = g.I.ArrayToBytesCodecTraits.meaning self.inner_codecs in
+    let index = g.X.ArrayToBytesCodecTraits.meaning self.index_codecs in
+    let location = location_of self.index_location in
+    index_part subchunk inner index location (elements_of c.args.part.elements.now) c.args.part.shape.now c.requires.fit
+
+pub cut_asked-requires-clause-many : goal.cut_asked-requires-clause-many
+cut_asked-requires-clause-many g c =
+    let self = c.args.self.now in
+    let shape = c.args.part.shape.now in
+    subst (HasPairs (product (grid_of shape self.subchunk_shape))) c.in-Ok-Some.field-0-is c.in-Ok-Some.ensures.many ∙ sym (length-parts shape self.subchunk_shape)
+
+pub returns-in_ok-cut_asked-in-Ok-Some-clause-part : goal.returns-in_ok-cut_asked-in-Ok-Some-clause-part
+returns-in_ok-cut_asked-in-Ok-Some-clause-part g c = λ honest.
+    let self = c.args.self.now in
+    let subchunk = self.subchunk_shape in
+    let inner = g.I.ArrayToBytesCodecTraits.meaning self.inner_codecs in
+    let index = g.X.ArrayToBytesCodecTraits.meaning self.index_codecs in
+    let location = location_of self.index_location in
+    let laws = g.met.D.BytesPartialDecoderTraits in
+    let shape = c.args.part.shape.now in
+    let asked = asked_of c.args.part.indexer in
+    let first = c.in-Ok-Some.ensures in
+    let contents = g.D.BytesPartialDecoderTraits.contents in
+    let opened = fetched_value index location (index_shape shape subchunk) (contents c.args.source.now) c.in-Ok-Some.field-0 c.in-Ok-Some.fetched c.in-Ok-Some.field-0-is (first.index honest) in
+    let still = subst IsTrue (laws.honest _ _ first.follows) honest in
+    let is = sym (laws.same _ _ first.follows) ∙ opened.is in
+    let pairs = all_pairs c.in-Ok-Some.fetched.pairs in
+    let array = coded (sharded subchunk inner index location) (elements_of c.args.part.elements.now) shape in
+    let told = value_total (contents c.open_index.new.source) pairs c.in-Ok-Some.fetched.total opened.value is opened.total in
+    record {
+      fit = c.requires.fit;
+      inside = c.requires.inside;
+      value = opened.value;
+      stored_is = opened.is;
+      pairs = pairs;
+      held = opened.held;
+      are = subst (λ (o : Option (List ℕ)). ArePartRead (asked_part array asked (unwrap_or o []) pairs) c.in_ok-cut_asked-in-Ok-Some.field-0) is (c.in_ok-cut_asked-in-Ok-Some.ensures.part still told);
+    }
+
+pub returns-in_ok-filled-in-Ok-None-clause-part : goal.returns-in_ok-filled-in-Ok-None-clause-part
+returns-in_ok-filled-in-Ok-None-clause-part g c = λ honest.
+    let self = c.args.self.now in
+    let subchunk = self.subchunk_shape in
+    let inner = g.I.ArrayToBytesCodecTraits.meaning self.inner_codecs in
+    let index = g.X.ArrayToBytesCodecTraits.meaning self.index_codecs in
+    let location = location_of self.index_location in
+    let shape = c.args.part.shape.now in
+    let asked = asked_of c.args.part.indexer in
+    let elements = elements_of c.args.part.elements.now in
+    let contents = g.D.BytesPartialDecoderTraits.contents c.args.source.now in
+    let none = fetched_nothing index location (index_shape shape subchunk) contents c.in-Ok-None.field-0 c.in-Ok-None.field-0-is (c.in-Ok-None.ensures.index honest) in
+    part_filled (sharded subchunk inner index location) elements shape contents (numbers_asked shape asked) asked c.in_ok-filled-in-Ok-None.filled c.requires.fit c.requires.inside refl none
+    (c.in_ok-filled-in-Ok-None.ensures ∙ ap (λ k. Some (replicate k elements.fill)) c.in-Some.ensures.some)
