@@ -1,6 +1,6 @@
 -- Chains that are written in part and make no shard: `bytes`, alone or after array codecs. Their values have one size, nothing refuses their cells, and only a value that doesn't open is damaged.
 use Rattle.std.proofs.Common.{◌≡◌, ◌∙◌, ℕ, ◌*◌, ◌^◌, ◌≤◌, ◌⊎◌, Bool, true, false, ◌&&◌, if◌then◌else◌, List, ◌∷◌, map, refl, sym, ap, subst, arith, Option, Some, None, Result, Ok, Err, IsTrue, inl, inr}
-use Rattle.std.specs.Prelude.{not, OnErr, MatchOption}
+use Rattle.std.specs.Prelude.{not, OnErr, MatchBool, MatchOption}
 use Rattle.std.proofs.lemmas.Bool.{and_parts, false≢true, leb-true}
 use Rattle.zarr_grids_boxes.specs.Boxes.{Region, product}
 use Rattle.zarr_codecs_meaning.specs.Chains.{Chain, ArrayCodec}
@@ -15,8 +15,8 @@ use Rattle.zarr_codecs_meaning.specs.Refusals.{CodecRefuses, PassesIndex}
 use Rattle.zarr_codecs_meaning.specs.Types.{Cell, DataType, Elements, bytes_in, components, is_fixed, byte_width, uint64, IsTooLarge}
 use Rattle.zarr_codecs_meaning.proofs.Once.{product_moved}
 use Rattle.zarr_codecs_options.specs.declared.codec_options.CodecOptions.{CodecOptions}
-use Rattle.zarr_codecs_traits.specs.Arrays.{coded, update_of}
-use Rattle.zarr_codecs_traits.specs.PartWriting.{MeetsLost, PassesLength, StopsWrite}
+use Rattle.zarr_codecs_traits.specs.Arrays.{Update, coded, update_of}
+use Rattle.zarr_codecs_traits.specs.PartWriting.{AfterWrite, LacksRoom, MeetsLost, PartsRefused, PassesLength, StopsWrite, WriteRefuses, after_write, write_moved}
 use Rattle.zarr_codecs_traits.specs.Indexers.{Asked, numbers_asked}
 use Rattle.zarr_codecs_traits.proofs.Damage.{plain_placed, stops_part}
 use Rattle.zarr_codecs_meaning.specs.Payloads.{Payload}
@@ -66,6 +66,25 @@ no_codec_refuses (after_array_codec codec chain) elements shape cells is h = no_
 no_codec_refuses (then_bytes chain codec) elements shape cells is h = absurd (false≢true is.partly)
 no_codec_refuses (sharded subchunk within index location) elements shape cells is h = absurd (false≢true is.plain)
 
+-- nor what a write asks for of the parts that it meets
+no_parts_refused : (chain : Chain) (elements : Elements) (shape : List ℕ) (write : AfterWrite) → IsInPart chain → PartsRefused chain elements shape write → ⊥
+no_parts_refused (bytes order) elements shape write is h = h
+no_parts_refused (packbits padding first last) elements shape write is h = h
+no_parts_refused (vlen index «data» width location) elements shape write is h = h
+no_parts_refused (optional mask values) elements shape write is h = h
+no_parts_refused (after_array_codec codec chain) elements shape write is h = no_parts_refused chain elements (encoded_shape codec shape) (write_moved codec elements.fill shape write) (inner codec chain is) h
+no_parts_refused (then_bytes chain codec) elements shape write is h = h
+no_parts_refused (sharded subchunk within index location) elements shape write is h = absurd (false≢true is.plain)
+
+pub nothing_refuses : (chain : Chain) (elements : Elements) (shape : List ℕ) (update : Update) (after : List Cell) → IsInPart chain → WriteRefuses (coded chain elements shape) update after → ⊥
+nothing_refuses chain elements shape update after is h =
+    let parts = PartsRefused chain elements shape (after_write (numbers_asked shape update.asked) update.stored after) in
+    let whole = CodecRefuses chain elements shape after in
+    elim (subst (λ (b : Bool). MatchBool b (parts ⊎ (LacksRoom (coded chain elements shape) update × whole)) whole) is.partly h) as (λ _. ⊥) [
+      | inl k ↦ no_parts_refused chain elements shape (after_write (numbers_asked shape update.asked) update.stored after) is k
+      | inr k ↦ no_codec_refuses chain elements shape after is k.1
+    ]
+
 pub none_passes : (chain : Chain) (elements : Elements) (shape : List ℕ) (cells : List Cell) → IsInPart chain → PassesIndex chain elements shape cells → ⊥
 none_passes (bytes order) elements shape cells is h = h
 none_passes (packbits padding first last) elements shape cells is h = h
@@ -109,7 +128,7 @@ keeps_bits (then_bytes chain codec) type is = absurd (false≢true is.partly)
 keeps_bits (sharded subchunk within index location) type is = absurd (false≢true is.plain)
 
 pub stopped_closed : (chain : Chain) (elements : Elements) (shape : List ℕ) (asked : Asked) (payload : Payload) (stored : Option (List ℕ)) → IsInPart chain → StopsWrite (coded chain elements shape) (update_of asked payload stored) → Opens chain elements shape stored ≡ false
-stopped_closed chain elements shape asked payload stored is (inr h) = (let why = h.1 (keeps_bits chain elements.type is) in absurd (none_long chain elements shape stored _ is why.is))
+stopped_closed chain elements shape asked payload stored is (inr h) = absurd (none_long chain elements shape stored _ is h.1.is)
 stopped_closed chain elements shape asked payload None is (inl h) = absurd h
 stopped_closed chain elements shape asked payload (Some value) is (inl h) = elim (stops_part chain elements shape value (numbers_asked shape asked) is.partly h) [
   | inl closed ↦ closed

@@ -1,6 +1,6 @@
 -- A part of a chunk that a codec put into the chunk's shard, or why it did not.
 use Rattle.std.proofs.Common.{◌≡◌, ◌∙◌, ℕ, ◌<◌, Bool, true, false, ◌&&◌, if◌then◌else◌, List, [], ◌∷◌, length, map, get_or, set, refl, sym, ap, subst, arith, Option, Some, None, Err, inl, inr, ◌⊎◌}
-use Rattle.std.specs.Prelude.{not, MatchOption}
+use Rattle.std.specs.Prelude.{not, MatchBool, MatchOption}
 use Rattle.std.specs.List.{list_all}
 use Rattle.std.proofs.lemmas.Bool.{and_parts, false≢true}
 use Rattle.std.proofs.lemmas.List.{get_or-map, length-map, length-set}
@@ -21,7 +21,8 @@ use Rattle.zarr_codecs_arrays.specs.declared.error.CodecError.{CodecError}
 use Rattle.zarr_codecs_arrays.specs.declared.error.CodecError.TheVariants as codec_error
 use Rattle.zarr_codecs_traits.specs.Indexers.{in_box, numbers_of, put}
 use Rattle.zarr_codecs_traits.specs.Arrays.{coded, update_of}
-use Rattle.zarr_codecs_traits.specs.PartWriting.{ChunkTight, IsEncodedInto, IsPlaced, MeetsLost, NotEncodedInto, PassesLength, StopsWrite, cells_after, cells_shown, only_cell}
+use Rattle.zarr_codecs_traits.specs.PartWriting.{AfterPut, ChunkTight, IsEncodedInto, IsPlaced, LacksRoom, MeetsLost, NotEncodedInto, PartsRefused, PassesLength, StopsWrite, WriteRefuses, after_write, cells_after, cells_shown, only_cell}
+use Rattle.zarr_codecs_traits.specs.ShardWrites.{Appends, AppendsParts, IsStoredGapless, LeavesParts}
 use Rattle.zarr_codecs_traits.proofs.Damage.{stops_part}
 use Rattle.zarr_array_storage.specs.declared.error.StorageError.{StorageError}
 use Rattle.zarr_array_meaning.specs.Boxes.{cell_of_box}
@@ -29,7 +30,7 @@ use Rattle.zarr_array_meaning.specs.Chunks.{holds_box, number_in}
 use Rattle.zarr_array_meaning.specs.Documents.{Document}
 use Rattle.zarr_array_meaning.specs.Writes.{Write}
 use Rattle.zarr_array_meaning.specs.Writing.{StopsInto, given_cell, is_into_shard, may_be_in_part, shared_numbers}
-use Rattle.zarr_array_core.specs.IntoShards.{HasNoRoomFor, IntoShardStops, IsPutInto, NotPutInto, Putting, PutsIntoShard, cells_over, cells_then, shard_refusal_of}
+use Rattle.zarr_array_core.specs.IntoShards.{HasNoRoomFor, IntoShardStops, IsPutInto, LeavesOthers, NotPutInto, Putting, PutsIntoShard, RefusesInto, cells_over, cells_then, shard_refusal_of}
 use Rattle.zarr_array_core.specs.Outcomes.{IsStoreRefusal}
 use Rattle.zarr_array_core.proofs.ChunkPayloads.{listed_none, not_counted}
 use Rattle.zarr_array_core.proofs.ChunkWritten.{cells_at_places}
@@ -109,17 +110,37 @@ module _ (write : Write) (box : Region) (payload : Payload) (sub : List Cell) (r
       get_or-map (only_cell fill) shown (number_in box place) None fill (omega (arith, below, many))
       ∙ ap (only_cell fill) (get_or-map-range_with_len (read stored) 0 (product box.shape) (number_in box place) (number_in box place) None below (omega arith)))
 
+  then_cells : (cells : List Cell) (stored : Option (List ℕ)) → cells ≡ sub → cells_after (coded document.chain document.elements box.shape) stored ns cells ≡ cells_then write box stored
+  then_cells cells stored same = ap (λ (cs : List Cell). cells_after (coded document.chain document.elements box.shape) stored ns cs) same ∙ put_read stored
+
+  -- the cells after a put are those of the write
+  then_put : (fact : List Cell → Type 0) (stored : Option (List ℕ)) (h : AfterPut (coded document.chain document.elements box.shape) (update_of (in_box (part_of write.region box)) payload stored) fact)
+      → cells_after (coded document.chain document.elements box.shape) stored ns h.cells ≡ cells_then write box stored
+  then_put fact stored h = then_cells h.cells stored (some_same (sym h.valid.is.lists ∙ are.are.valid.is.lists))
+
   -- ---- what a codec put
 
+  -- what a write left of the subchunks that it didn't meet
+  others_left : (old new : Option (List ℕ)) → IsIntoShard document write.region box → LeavesParts (coded document.chain document.elements box.shape) (update_of (in_box (part_of write.region box)) payload old) new → LeavesOthers write box old new
+  others_left old new into left =
+      let array = coded document.chain document.elements box.shape in
+      let update = update_of (in_box (part_of write.region box)) payload old in
+      let anew = IsStoredGapless document.chain box.shape new in
+      elim (subst (λ (b : Bool). MatchBool b (AppendsParts array update new ⊎ (LacksRoom array update × anew)) anew) into.partly left.parts) as (λ _. LeavesOthers write box old new) [
+        | inl h ↦ inl (subst (λ (cs : List Cell). Appends document.chain document.elements box.shape (after_write ns old cs) new) (then_put (λ after. Appends document.chain document.elements box.shape (after_write ns old after) new) old h) h.is)
+        | inr h ↦ inr (subst (PassesLength document.chain document.elements box.shape old) (then_put (PassesLength document.chain document.elements box.shape old) old h.0) h.0.is, h.1)
+      ]
+
   put_shard : (cells : List Cell) (old new : Option (List ℕ)) → IsIntoShard document write.region box → IsEncodedInto (coded document.chain document.elements box.shape) write.array.exact (update_of (in_box (part_of write.region box)) payload old) cells new
-      → IsPlaced document.chain box.shape old → PutsIntoShard write box old new
-  put_shard cells old new into h placed =
+      → LeavesParts (coded document.chain document.elements box.shape) (update_of (in_box (part_of write.region box)) payload old) new → PutsIntoShard write box old new
+  put_shard cells old new into h left =
       let same : cells ≡ sub = some_same (sym h.valid.is.lists ∙ are.are.valid.is.lists) in
       let over : (before : List Cell) → length before ≡ product box.shape → put ns cells before ≡ cells_over write box before = λ before whole. ap (λ (cs : List Cell). put ns cs before) same ∙ put_before before whole in
       record {
         fit = are.fit;
-        taken = taken_of document write.region box old into.partly h.opened h.none_lost placed;
+        taken = taken_of document write.region box old into.partly h.opened h.none_lost left.placed;
         puts = puts_cells write write.array.exact box payload sub cells old new are h;
+        others = others_left old new into left;
         stands = λ lossless before is st. subst (λ (cs : List Cell). ChunkStands document.chain document.elements box.shape new cs) (over before is.whole) (h.stands lossless before is st);
         tight = λ exact lossless before is st. subst (λ (cs : List Cell). ChunkTight document.chain document.elements box.shape new cs) (over before is.whole) (h.tight exact lossless before is st);
         absent = λ lossless before is st filled. h.absent into.shard lossless before is st (ap (is_fill fill) (over before is.whole) ∙ filled);
@@ -127,25 +148,33 @@ module _ (write : Write) (box : Region) (payload : Payload) (sub : List Cell) (r
 
   -- ---- why it did not
 
-  then_cells : (cells : List Cell) (stored : Option (List ℕ)) → cells ≡ sub → cells_after (coded document.chain document.elements box.shape) stored ns cells ≡ cells_then write box stored
-  then_cells cells stored same = ap (λ (cs : List Cell). cells_after (coded document.chain document.elements box.shape) stored ns cs) same ∙ put_read stored
-
   not_taken : (stored : Option (List ℕ)) → IsIntoShard document write.region box → StopsWrite (coded document.chain document.elements box.shape) (update_of (in_box (part_of write.region box)) payload stored) → StopsInto document write.region box stored ⊎ HasNoRoomFor write box stored
   not_taken None into (inl h) = absurd h
   not_taken (Some value) into (inl h) = inl (stops_part document.chain document.elements box.shape value ns into.partly h)
-  not_taken stored into (inr h) = inr (
-    h.0,
-    λ lossless.
-        let why = h.1 lossless in
-        subst (PassesLength document.chain document.elements box.shape stored) (then_cells why.cells stored (some_same (sym why.valid.is.lists ∙ are.are.valid.is.lists))) why.is,
-  )
+  not_taken stored into (inr h) = inr (h.0, subst (PassesLength document.chain document.elements box.shape stored) (then_put (PassesLength document.chain document.elements box.shape stored) stored h.1) h.1.is)
+
+  -- what a codec refuses
+  refused_into : (stored : Option (List ℕ)) → IsIntoShard document write.region box
+      → AfterPut (coded document.chain document.elements box.shape) (update_of (in_box (part_of write.region box)) payload stored) (WriteRefuses (coded document.chain document.elements box.shape) (update_of (in_box (part_of write.region box)) payload stored))
+      → RefusesInto write box stored
+  refused_into stored into h =
+      let array = coded document.chain document.elements box.shape in
+      let update = update_of (in_box (part_of write.region box)) payload stored in
+      let after = cells_after array stored ns h.cells in
+      let parts = λ (cs : List Cell). PartsRefused document.chain document.elements box.shape (after_write ns stored cs) in
+      let whole = λ (cs : List Cell). CodecRefuses document.chain document.elements box.shape cs in
+      let long = PassesLength document.chain document.elements box.shape stored in
+      let same = then_put (WriteRefuses array update) stored h in
+      elim (subst (λ (b : Bool). MatchBool b (parts after ⊎ (LacksRoom array update × whole after)) (whole after)) into.partly h.is) as (λ _. RefusesInto write box stored) [
+        | inl k ↦ inl (subst parts same k)
+        | inr k ↦ inr (subst long (then_put long stored k.0) k.0.is, subst whole same k.1)
+      ]
 
   not_into : (stored : Option (List ℕ)) (e : CodecError) (refusal : StorageError) → IsStoreRefusal refusal → IsIntoShard document write.region box → ¬ IsTooLarge document.elements.type (product box.shape)
       → NotEncodedInto {A = Unit {0}} (coded document.chain document.elements box.shape) (update_of (in_box (part_of write.region box)) payload stored) (Err e) → IntoShardStops write box stored (shard_refusal_of e refusal)
   not_into stored codec_error.Fit refusal told into small h = absurd (false≢true (sym h ∙ are.fit))
   not_into stored codec_error.Damage refusal told into small h = not_taken stored into h.1
-  not_into stored codec_error.Codec refusal told into small h =
-      subst (CodecRefuses document.chain document.elements box.shape) (then_cells h.cells stored (some_same (sym h.valid.is.lists ∙ are.are.valid.is.lists))) h.is
+  not_into stored codec_error.Codec refusal told into small h = refused_into stored into h
   not_into stored codec_error.Source refusal told into small h = told
   not_into stored codec_error.Size refusal told into small (inl large) = absurd (small large)
   not_into stored codec_error.Size refusal told into small (inr h) =
@@ -181,7 +210,8 @@ module _ (write : Write) (box shared part : Region) (shape start : List ℕ) (pa
       put_shard write box payload sub rank are h.cells old new into
       (subst (λ (s : List ℕ). IsEncodedInto (coded write.array.document.chain write.array.document.elements s) write.array.exact (update_of (in_box (part_of write.region box)) payload old) h.cells new) call.whole
       (subst (λ (r : Region). IsEncodedInto (coded write.array.document.chain write.array.document.elements shape) write.array.exact (update_of (in_box r) payload old) h.cells new) same_part h.encoded))
-      (subst (λ (s : List ℕ). IsPlaced write.array.document.chain s old) call.whole h.placed)
+      (subst (λ (s : List ℕ). LeavesParts (coded write.array.document.chain write.array.document.elements s) (update_of (in_box (part_of write.region box)) payload old) new) call.whole
+      (subst (λ (r : Region). LeavesParts (coded write.array.document.chain write.array.document.elements shape) (update_of (in_box r) payload old) new) same_part h.parts))
 
   pub was_not_into : (old : Option (List ℕ)) (e : CodecError) (refusal : StorageError) → IsStoreRefusal refusal → NotPutInto {A = Unit {0}} chunk_part_is old (Err e) → IntoShardStops write box old (shard_refusal_of e refusal)
   was_not_into old e refusal told h =

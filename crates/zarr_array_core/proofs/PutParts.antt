@@ -36,7 +36,7 @@ use Rattle.zarr_array_meaning.specs.Writing.{opens_in}
 use Rattle.zarr_array_meaning.proofs.TakenParts.{part_of_decoded}
 use Rattle.zarr_array_core.specs.ChunkValues.{CellsBecome, IsPutRefusal, PutsCells, PutStops, plain_write, put_refusal_of}
 use Rattle.zarr_array_core.proofs.ChunkPayloads.{AreArrayElements, listed_none, not_counted}
-use Rattle.zarr_array_core.proofs.InParts.{IsInPart, keeps_bits, stopped_closed, no_codec_refuses, none_long, none_passes}
+use Rattle.zarr_array_core.proofs.InParts.{IsInPart, keeps_bits, stopped_closed, nothing_refuses, none_long, none_passes}
 use Rattle.zarr_array_core.proofs.PlainBytes.{IsPartWrite, become_plain, cells_plain, fits_plain, fixed_of_fit, keeps_filled, large_plain, puts_back}
 use Rattle.zarr_array_elements.proofs.ByNumber.{AreDistinct}
 use Rattle.zarr_array_elements.proofs.FixedCells.{number_below}
@@ -262,7 +262,7 @@ why_not_put : (A : Type 0) (write : Write) (box : Region) (payload : Payload) (s
     → NotEncodedInto {A = A} (coded write.array.document.chain write.array.document.elements box.shape) (update_of (in_box (part_of write.region box)) payload stored) (Err e) → IsPutStop write.array.document box stored e
 why_not_put A write box payload sub stored codec_error.Fit chain are small h = false≢true (sym h ∙ are.fit)
 why_not_put A write box payload sub stored codec_error.Damage chain are small h = stopped_closed write.array.document.chain write.array.document.elements box.shape _ payload stored chain h.1
-why_not_put A write box payload sub stored codec_error.Codec chain are small h = no_codec_refuses write.array.document.chain write.array.document.elements box.shape _ chain h.is
+why_not_put A write box payload sub stored codec_error.Codec chain are small h = nothing_refuses write.array.document.chain write.array.document.elements box.shape (update_of (in_box (part_of write.region box)) payload stored) _ chain h.is
 why_not_put A write box payload sub stored codec_error.Source chain are small h = tt
 why_not_put A write box payload sub stored codec_error.Size chain are small (inl large) = small large
 why_not_put A write box payload sub stored codec_error.Size chain are small (inr h) = elim h.is [

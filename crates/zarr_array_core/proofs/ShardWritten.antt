@@ -1,6 +1,6 @@
 -- One chunk written, where a part of it is put into its shard, or otherwise.
 use Rattle.std.proofs.Common.{◌≡◌, ◌∙◌, ℕ, Bool, IsTrue, true, false, if◌then◌else◌, ◌&&◌, ◌||◌, List, [], ◌∷◌, length, map, refl, sym, ap, subst, Option, Some, None, is_some, ⊎_elim, inl, inr}
-use Rattle.std.specs.Prelude.{MatchBool, not}
+use Rattle.std.specs.Prelude.{◌⊎◌, MatchBool, not}
 use Rattle.std.specs.FinMap.{get}
 use Rattle.std.proofs.lemmas.Bool.{false≢true}
 use Rattle.zarr_grids_boxes.specs.Boxes.{Region, places, is_in_box}
@@ -10,10 +10,11 @@ use Rattle.zarr_grids_keys.specs.Keys.{chunk_key}
 use Rattle.zarr_codecs_meaning.specs.Chunks.{chunk_part, IsStored}
 use Rattle.zarr_codecs_meaning.specs.Fits.{is_plain}
 use Rattle.zarr_codecs_meaning.specs.Laws.{AreCells}
+use Rattle.zarr_codecs_meaning.specs.Refusals.{CodecRefuses}
 use Rattle.zarr_codecs_meaning.specs.Standing.{ChunkStands}
 use Rattle.zarr_codecs_meaning.specs.Types.{Cell, is_fill}
 use Rattle.zarr_codecs_meaning.proofs.Chunks.{stored_decoded}
-use Rattle.zarr_codecs_traits.specs.PartWriting.{ChunkTight}
+use Rattle.zarr_codecs_traits.specs.PartWriting.{ChunkTight, PartsRefused, PassesLength, after_write}
 use Rattle.zarr_array_elements.proofs.FixedCells.{cell_of_places, number_below}
 use Rattle.zarr_array_meaning.specs.Arrays.{value_at}
 use Rattle.zarr_array_meaning.specs.Boxes.{cell_of_box}
@@ -21,7 +22,7 @@ use Rattle.zarr_array_meaning.specs.Chunks.{fits_box, holds_box, number_in, part
 use Rattle.zarr_array_meaning.specs.Standing.{AreValues, ChunkStandsAt, ChunkTightAt, IsLossless}
 use Rattle.zarr_array_meaning.specs.StoreMaps.{StoreMap}
 use Rattle.zarr_array_meaning.specs.Writes.{Write}
-use Rattle.zarr_array_meaning.specs.Writing.{ChunkBecomes, IsKeyed, StopsInto, Takes, WroteChunks, cell_read, given_cell, goes_into_shard, is_in_part, keeps_fill, may_be_in_part, takes_cells, written_over}
+use Rattle.zarr_array_meaning.specs.Writing.{ChunkBecomes, IsKeyed, RefusesCells, StopsInto, Takes, WroteChunks, cell_read, given_cell, goes_into_shard, is_in_part, keeps_fill, may_be_in_part, shared_numbers, takes_cells, written_over}
 use Rattle.zarr_array_meaning.proofs.TakenParts.{read_of_decoded}
 use Rattle.zarr_array_core.specs.ChunkValues.{ChangesValue, ChangeStops, with_value}
 use Rattle.zarr_array_core.specs.IntoShards.{FittingStops, IntoShardStops, PutsIntoShard, WritesChunk, WritingStops, cells_over, cells_then}
@@ -215,6 +216,17 @@ wrote_chunk write chunk box old made is h =
 
 -- ---- a chunk that is not written
 
+-- what is refused, by whether a part is put into the shard
+refuses_by : (write : Write) (box : Region) (into : Bool) (held : Option (List ℕ)) (cells : List Cell) → goes_into_shard write box ≡ into
+    → MatchBool into (PartsRefused write.array.document.chain write.array.document.elements box.shape (after_write (shared_numbers write.region box) held cells)
+    ⊎ (PassesLength write.array.document.chain write.array.document.elements box.shape held cells × CodecRefuses write.array.document.chain write.array.document.elements box.shape cells))
+    (CodecRefuses write.array.document.chain write.array.document.elements box.shape cells) → RefusesCells write box held cells
+refuses_by write box into held cells is h =
+    let document = write.array.document in
+    let whole = CodecRefuses document.chain document.elements box.shape cells in
+    let met = PartsRefused document.chain document.elements box.shape (after_write (shared_numbers write.region box) held cells) in
+    subst (λ (b : Bool). MatchBool b (met ⊎ (PassesLength document.chain document.elements box.shape held cells × whole)) whole) (sym is) h
+
 module _ (write : Write) (box : Region) (held : Option (List ℕ)) where
   whole_stops : (e : ChunkError) → goes_into_shard write box ≡ false → ChangeStops write box held e → ChunkStops write box held e
   whole_stops error.Fit whole h = h
@@ -224,7 +236,13 @@ module _ (write : Write) (box : Region) (held : Option (List ℕ)) where
     part = h.1;
     lost = subst (λ (b : Bool). MatchBool b (StopsInto write.array.document write.region box held) (takes_cells write.array.document write.options write.region box held ≡ false)) (sym whole) h.2;
   })
-  whole_stops error.Codec whole h = record { fit = h.fit; cells = h.cells; becomes = becomes_at write box held h.cells h.fit h.becomes; called = λ _. h.refuses.0; refuses = h.refuses.1 }
+  whole_stops error.Codec whole h = record {
+    fit = h.fit;
+    cells = h.cells;
+    becomes = becomes_at write box held h.cells h.fit h.becomes;
+    called = λ _. h.refuses.0;
+    refuses = refuses_by write box false held h.cells whole h.refuses.1;
+  }
   whole_stops error.Size whole h = record { fit = h.fit; cells = h.cells; becomes = becomes_at write box held h.cells h.fit h.becomes; called = λ _. h.refuses.0; passes = inl h.refuses.1 }
   whole_stops error.Memory whole h = tt
 
@@ -241,14 +259,14 @@ module _ (write : Write) (box : Region) (held : Option (List ℕ)) where
     fit = fit;
     into = into;
     undecoded = h.0;
-    passes = λ lossless. (cells_now write box held rank into, becomes_then write box held rank into, h.1 lossless);
+    passes = (cells_now write box held rank into, becomes_then write box held rank into, h.1);
   })
   shard_stops error.Codec rank into fit h = record {
     fit = fit;
     cells = cells_now write box held rank into;
     becomes = becomes_then write box held rank into;
     called = λ whole. absurd (false≢true (sym whole ∙ into));
-    refuses = h;
+    refuses = refuses_by write box true held (cells_now write box held rank into) into h;
   }
   shard_stops error.Size rank into fit h = record {
     fit = fit;

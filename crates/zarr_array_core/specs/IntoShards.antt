@@ -17,7 +17,8 @@ use Rattle.zarr_codecs_arrays.specs.declared.error.CodecError.{CodecError}
 use Rattle.zarr_codecs_arrays.specs.declared.error.CodecError.TheVariants as codec_error
 use Rattle.zarr_codecs_traits.specs.Indexers.{Asked, in_box}
 use Rattle.zarr_codecs_traits.specs.Arrays.{coded, update_of}
-use Rattle.zarr_codecs_traits.specs.PartWriting.{ChunkTight, IsEncodedInto, IsPlaced, NotEncodedInto, OnCells, PassesLength, WritesOnce, only_cell}
+use Rattle.zarr_codecs_traits.specs.PartWriting.{ChunkTight, IsEncodedInto, NotEncodedInto, OnCells, PartsRefused, PassesLength, WritesOnce, after_write, only_cell}
+use Rattle.zarr_codecs_traits.specs.ShardWrites.{Appends, IsStoredGapless, LeavesParts}
 use Rattle.zarr_codecs_traits.specs.Sources.{refused_after}
 use Rattle.zarr_codecs_traits.specs.declared.array_to_bytes.ArrayToBytesCodecTraits as codecs
 use Rattle.zarr_array_meaning.specs.Arrays.{value_at}
@@ -27,7 +28,7 @@ use Rattle.zarr_array_meaning.specs.Documents.{Document}
 use Rattle.zarr_array_meaning.specs.Standing.{IsLossless}
 use Rattle.zarr_array_meaning.specs.StoreMaps.{StoreMap}
 use Rattle.zarr_array_meaning.specs.Writes.{Write}
-use Rattle.zarr_array_meaning.specs.Writing.{StopsInto, given_cell, goes_into_shard}
+use Rattle.zarr_array_meaning.specs.Writing.{StopsInto, given_cell, goes_into_shard, shared_numbers}
 use Rattle.zarr_array_storage.specs.declared.traits.ReadableStorageTraits as stores
 use Rattle.zarr_array_storage.specs.declared.error.StorageError.{StorageError}
 use Rattle.zarr_array_core.specs.ChunkValues.{ChangesValue, ChangeStops, PutsCells, with_value}
@@ -55,11 +56,20 @@ cells_then write box stored =
     let read = λ (place : List ℕ). only_cell write.array.document.elements.fill (part_at write.array.document box stored place) in
     map (λ place. if is_in_box write.region.start write.region.shape place then given_cell write place else read place) (places box.start box.shape)
 
+-- the subchunks that a box meets got new slices behind a chunk's shard, and each other one stays; or there was no room for these, and the shard was written anew without gaps
+abbrev pub LeavesOthers : Write → Region → Option (List ℕ) → Option (List ℕ) → Type 0
+LeavesOthers write box stored made =
+    let document = write.array.document in
+    let cells = cells_then write box stored in
+    Appends document.chain document.elements box.shape (after_write (shared_numbers write.region box) stored cells) made
+    ⊎ (PassesLength document.chain document.elements box.shape stored cells × IsStoredGapless document.chain box.shape made)
+
 -- the cells of a write were put into a chunk's shard, which doesn't stop them: each place is read so, what stood for cells stands for them with the new ones, and a shard that is all fill then is taken away
 pub record PutsIntoShard (write : Write) (box : Region) (stored made : Option (List ℕ)) : Type 0 where
   pub fit : fits_box write.array.document box ≡ true
   pub taken : ¬ StopsInto write.array.document write.region box stored
   pub puts : PutsCells write box stored made
+  pub others : LeavesOthers write box stored made
   pub stands : IsLossless write.array.document → OnCells write.array.document.elements box.shape (λ before. ChunkStands write.array.document.chain write.array.document.elements box.shape stored before
       → ChunkStands write.array.document.chain write.array.document.elements box.shape made (cells_over write box before))
   pub tight : IsTrue write.array.exact → IsLossless write.array.document → OnCells write.array.document.elements box.shape (λ before. ChunkTight write.array.document.chain write.array.document.elements box.shape stored before
@@ -67,18 +77,24 @@ pub record PutsIntoShard (write : Write) (box : Region) (stored made : Option (L
   pub absent : IsLossless write.array.document → OnCells write.array.document.elements box.shape (λ before. ChunkStands write.array.document.chain write.array.document.elements box.shape stored before
       → is_fill write.array.document.elements.fill (cells_over write box before) ≡ true → made ≡ None)
 
--- what is stored for a chunk isn't decoded, and behind it there is no room for the new slices: put there, they would make 2^63 bytes or more. Of a chain that drops bits the last isn't said
+-- what is stored for a chunk isn't decoded, and behind it there is no room for the new slices: put there, they would make 2^63 bytes or more
 abbrev pub HasNoRoomFor : Write → Region → Option (List ℕ) → Type 0
-HasNoRoomFor write box stored =
-    (decoded_in write.array.document box stored ≡ None)
-    × (IsLossless write.array.document → PassesLength write.array.document.chain write.array.document.elements box.shape stored (cells_then write box stored))
+HasNoRoomFor write box stored = (decoded_in write.array.document box stored ≡ None) × PassesLength write.array.document.chain write.array.document.elements box.shape stored (cells_then write box stored)
+
+-- a caller's codec refuses what the subchunks that a box meets call for, or, where there is no room for their new slices, what the whole chunk does
+abbrev pub RefusesInto : Write → Region → Option (List ℕ) → Type 0
+RefusesInto write box stored =
+    let document = write.array.document in
+    let cells = cells_then write box stored in
+    PartsRefused document.chain document.elements box.shape (after_write (shared_numbers write.region box) stored cells)
+    ⊎ (PassesLength document.chain document.elements box.shape stored cells × CodecRefuses document.chain document.elements box.shape cells)
 
 -- why the cells of a write are not put into a chunk's shard
 abbrev pub IntoShardStops : Write → Region → Option (List ℕ) → ChunkError → Type 0
 IntoShardStops write box stored error.Fit = ⊥
 IntoShardStops write box stored (error.Storage e) = IsStoreRefusal e
 IntoShardStops write box stored error.Damage = StopsInto write.array.document write.region box stored ⊎ HasNoRoomFor write box stored
-IntoShardStops write box stored error.Codec = CodecRefuses write.array.document.chain write.array.document.elements box.shape (cells_then write box stored)
+IntoShardStops write box stored error.Codec = RefusesInto write box stored
 IntoShardStops write box stored error.Size =
     PassesIndex write.array.document.chain write.array.document.elements box.shape (cells_then write box stored) ⊎ PassesLength write.array.document.chain write.array.document.elements box.shape stored (cells_then write box stored)
 IntoShardStops write box stored error.Memory = Unit {0}
@@ -131,7 +147,7 @@ putting_of c array shape part bytes = record { chain = c.meaning array.codecs; e
 pub record IsPutInto (put : Putting) (stored made : Option (List ℕ)) : Type 0 where
   pub cells : List Cell
   pub encoded : IsEncodedInto (coded put.chain put.elements put.shape) put.exact (update_of put.asked put.payload stored) cells made
-  pub placed : IsPlaced put.chain put.shape stored
+  pub parts : LeavesParts (coded put.chain put.elements put.shape) (update_of put.asked put.payload stored) made
 
 -- or why they were not
 abbrev pub NotPutInto : {A : Type 0} → Putting → Option (List ℕ) → Result A CodecError → Type 0

@@ -344,9 +344,9 @@ impl<C: ArrayToBytesCodecTraits> ArrayCore<C> {
         let Some(part) = found else {
             return Ok(shown);
         };
-        let (bytes, shared) = (&part.bytes, &part.shared);
-        let made = shown.put(read.alloc, read.region, bytes, shared, &self.elements)?;
-        rooms.keep_shared(part.shared);
+        let ChunkPart { shared, bytes } = part;
+        let made = shown.put(read.alloc, read.region, bytes, &shared, &self.elements)?;
+        rooms.keep_shared(shared);
         Ok(made)
     }
 

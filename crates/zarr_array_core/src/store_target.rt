@@ -102,7 +102,7 @@ impl<'a, S: WritableStorageTraits> BytesPartialDecoderTraits for StoreTarget<'a,
 }
 
 impl<'a, S: WritableStorageTraits> BytesPartialEncoderTraits for StoreTarget<'a, S> {
-    ghost use Rattle.std.specs.Prelude.{◌≡◌, IsTrue};
+    ghost use Rattle.std.specs.Prelude.{◌≡◌, refl, IsTrue};
     ghost use Rattle.std.proofs.Common.{ap, subst, sym, ◌∙◌};
     ghost use Rattle.std.specs.FinMap.{remove};
     ghost use Rattle.zarr_array_storage.specs.PartialEncoders.{SameElsewhere};
@@ -160,6 +160,8 @@ impl<'a, S: WritableStorageTraits> BytesPartialEncoderTraits for StoreTarget<'a,
     ghost reads = { λ a _ f. (f.0, f.1, f.3, λ _. ap (λ held. remove held a.key.now) f.2) };
 
     ghost unwritten = { λ _ _ f. f.4 };
+
+    ghost still_ranges = { λ _ _ _. refl };
 
     ghost still_honest = { λ _ _ f. f.2 };
 

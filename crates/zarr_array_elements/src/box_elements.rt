@@ -9,7 +9,7 @@ ghost use Rattle.zarr_array_elements.specs.Views.{cells_shown, AreShown};
 
 use crate::cutting::element_width;
 use crate::numbered::NumberedElements;
-use crate::putting::put_fixed;
+use crate::putting::put_or_take;
 use std::alloc::{AllocError, Global};
 use zarr_codecs_arrays::{ArrayBytes, CodecError, Elements};
 use zarr_grids_boxes::ArraySubset;
@@ -55,12 +55,12 @@ impl BoxElements {
         self,
         alloc: Global,
         region: &ArraySubset,
-        given: &ArrayBytes,
+        given: ArrayBytes,
         at: &ArraySubset,
         elements: &Elements,
     ) -> Result<BoxElements, AllocError>
         requires shown { AreShown (elements_of elements.now) (region_of region.now) self }
-        requires given { AreOfBox (elements_of elements.now).type (payload_of given.now)
+        requires given { AreOfBox (elements_of elements.now).type (payload_of given)
             (region_of at.now) }
         requires rank { length at.now.start.items ≡ length region.now.start.items }
         requires some { 0 < product at.now.shape.items }
@@ -69,20 +69,21 @@ impl BoxElements {
             (AreShown (elements_of elements.now) (region_of region.now)) }
         ensures cells { IfOk result (λ shown. ArePutOver (elements_of elements.now).fill
             (cells_at (region_of at.now)
-            (cells_of (elements_of elements.now).type (payload_of given.now)))
+            (cells_of (elements_of elements.now).type (payload_of given)))
             (cells_at (region_of region.now) (cells_shown (elements_of elements.now) self))
             (cells_shown (elements_of elements.now) shown)) }
     {
         match self {
             BoxElements::Fixed(bytes, width) => match given {
                 ArrayBytes::Fixed(given) => {
-                    let made = put_fixed(bytes, region, given.as_slice(), at, width);
+                    let made = put_or_take(bytes, region, given, at, width);
                     Ok(BoxElements::Fixed(made, width))
                 }
-                _ => unreachable!(),
+                ArrayBytes::Variable(_bytes, _offsets) => unreachable!(),
+                ArrayBytes::Optional(_inner, _mask) => unreachable!(),
             },
             BoxElements::Numbered(all) => {
-                let made = all.put(alloc, region, given, at, elements)?;
+                let made = all.put(alloc, region, &given, at, elements)?;
                 Ok(BoxElements::Numbered(made))
             }
         }

@@ -116,3 +116,25 @@ pub(crate) fn put_fixed(
     overlay(&mut before, Extent { start, shape }, given, whole, width);
     before
 }
+
+/// The bytes of the elements of a box, of `width` bytes each, after others were put over them: the
+/// others as they are where their box is the same.
+pub(crate) fn put_or_take(
+    before: Vec<u8>,
+    region: &ArraySubset,
+    given: Vec<u8>,
+    from: &ArraySubset,
+    width: usize,
+) -> Vec<u8>
+    requires rank { length from.now.start.items ≡ length region.now.start.items }
+    requires positive { 0 < width }
+    requires whole { length before.items ≡ product region.now.shape.items * width }
+    requires given { length given.items ≡ product from.now.shape.items * width }
+    ensures { IsOverlaid width (region_of region.now) (region_of from.now) before.items given.items
+        result.items }
+{
+    if from == region {
+        return given;
+    }
+    put_fixed(before, region, given.as_slice(), from, width)
+}

@@ -34,7 +34,7 @@ module _ (write : Write) (exact : Bool) (box : Region) (stored : Option (List �
     fit = r.fit;
     into = r.into;
     undecoded = r.undecoded;
-    passes = λ lossless. let is = r.passes lossless in (is.0, becomes_with is.0 is.1, is.2);
+    passes = (r.passes.0, becomes_with r.passes.0 r.passes.1, r.passes.2);
   }
 
   pub refused_with : IsCodecRefused write box stored → IsCodecRefused (with_exact write exact) box stored

@@ -14,7 +14,7 @@ use Rattle.zarr_codecs_meaning.specs.Refusals.{CodecRefuses, PassesIndex}
 use Rattle.zarr_codecs_meaning.specs.Laws.{AreCells}
 use Rattle.zarr_codecs_meaning.specs.Standing.{Stands, ChunkStands}
 use Rattle.zarr_codecs_traits.specs.Indexers.{numbers_of}
-use Rattle.zarr_codecs_traits.specs.PartWriting.{PassesLength, StopsPart}
+use Rattle.zarr_codecs_traits.specs.PartWriting.{PartsRefused, PassesLength, StopsPart, after_write}
 use Rattle.zarr_array_meaning.specs.Arrays.{value_at}
 use Rattle.zarr_array_meaning.specs.Boxes.{cell_of_box, lies_in_any, replaced_in}
 use Rattle.zarr_array_meaning.specs.Chunks.{stored_at, fits_box, decoded_in, part_at, ReadsCell, holds_box, is_listed, KeepsOtherKeys}
@@ -97,17 +97,24 @@ pub record IsPartDamaged (write : Write) (box : Region) (stored : Option (List �
   pub part : holds_box write.region box ≡ false
   pub lost : Loses write.array.document write.options write.region box stored
 
--- a shard isn't decoded, and there is no room behind it for the new slices: put there, they would make 2^63 bytes or more. Of a chain that drops bits the last isn't said
+-- a shard isn't decoded, and there is no room behind it for the new slices: put there, they would make 2^63 bytes or more
 pub record LacksRoom (write : Write) (box : Region) (stored : Option (List ℕ)) : Type 0 where
   pub fit : fits_box write.array.document box ≡ true
   pub into : goes_into_shard write box ≡ true
   pub undecoded : decoded_in write.array.document box stored ≡ None
-  pub passes : IsLossless write.array.document → (cells : List Cell) × ChunkBecomes write box stored cells
-      × PassesLength write.array.document.chain write.array.document.elements box.shape stored cells
+  pub passes : (cells : List Cell) × ChunkBecomes write box stored cells × PassesLength write.array.document.chain write.array.document.elements box.shape stored cells
 
 -- the chunk's new cells are encoded: cells that are all fill only where such a chunk is stored
 abbrev pub IsEncodedFor : Write → Region → List Cell → Type 0
 IsEncodedFor write box cells = goes_into_shard write box ≡ false → keeps_fill write box ≡ false → is_fill write.array.document.elements.fill cells ≡ false
+
+-- the caller's codec refuses what the chunk's new cells call for: all of them, or, where a part is put into the chunk's shard, what the subchunks call for that the box meets, and all where there is no room behind the shard for their new slices
+abbrev pub RefusesCells : Write → Region → Option (List ℕ) → List Cell → Type 0
+RefusesCells write box stored cells =
+    let document = write.array.document in
+    let whole = CodecRefuses document.chain document.elements box.shape cells in
+    let met = PartsRefused document.chain document.elements box.shape (after_write (shared_numbers write.region box) stored cells) in
+    MatchBool (goes_into_shard write box) (met ⊎ (PassesLength document.chain document.elements box.shape stored cells × whole)) whole
 
 -- the caller's codec refuses bytes that encoding the chunk's new cells calls for
 pub record IsCodecRefused (write : Write) (box : Region) (stored : Option (List ℕ)) : Type 0 where
@@ -115,7 +122,7 @@ pub record IsCodecRefused (write : Write) (box : Region) (stored : Option (List 
   pub cells : List Cell
   pub becomes : ChunkBecomes write box stored cells
   pub called : IsEncodedFor write box cells
-  pub refuses : CodecRefuses write.array.document.chain write.array.document.elements box.shape cells
+  pub refuses : RefusesCells write box stored cells
 
 -- an offset or a length passes where it is written, or the chunk's value has 2^63 bytes or more; new slices put behind a shard may make it so long
 pub record IsOversized (write : Write) (box : Region) (stored : Option (List ℕ)) : Type 0 where

@@ -177,7 +177,7 @@ impl<'a, S: WritableStorageTraits> BytesPartialDecoderTraits for StoragePartialE
 }
 
 impl<'a, S: WritableStorageTraits> BytesPartialEncoderTraits for StoragePartialEncoder<'a, S> {
-    ghost use Rattle.std.specs.Prelude.{◌≡◌, IsTrue};
+    ghost use Rattle.std.specs.Prelude.{◌≡◌, refl, IsTrue};
     ghost use Rattle.std.proofs.Common.{ap, subst, sym, ◌∙◌};
     ghost use Rattle.std.specs.FinMap.{remove};
     ghost use Rattle.zarr_array_storage.specs.PartialEncoders.{SameElsewhere};
@@ -232,6 +232,8 @@ impl<'a, S: WritableStorageTraits> BytesPartialEncoderTraits for StoragePartialE
     ) };
 
     ghost unwritten = { λ _ _ f. f.0.4 };
+
+    ghost still_ranges = { λ _ _ _. refl };
 
     ghost still_honest = { λ _ _ f. f.0.2 };
 

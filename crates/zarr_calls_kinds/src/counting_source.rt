@@ -151,6 +151,8 @@ impl BytesPartialEncoderTraits for CountingSource {
 
     ghost unwritten = { λ _ _ f. f.1 };
 
+    ghost still_ranges = { λ _ _ _. refl };
+
     ghost still_honest = { λ _ _ _. refl };
 
     ghost writes_on = { λ _ _ _ _ _. tt };

@@ -88,6 +88,7 @@ encodes_after codec chain exact elements shape payload made (Ok value) fill fit 
         encodes = λ one. ap (encoded chain elements (encoded_shape codec shape)) (sym same) ∙ h.1.encodes one;
         stands = λ lossless. subst (Stands chain elements (encoded_shape codec shape) value.items) same (h.1.stands lossless);
         sized = h.1.sized;
+        gapless = h.1.gapless;
       },
     )
 encodes_after codec chain exact elements shape payload made (Err error.Fit) fill fit m h = unfit_after codec chain elements.type shape h

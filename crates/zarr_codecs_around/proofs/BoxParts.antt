@@ -1,6 +1,7 @@
 -- Boxes that are read through array codecs.
-use Rattle.std.proofs.Common.{◌≡◌, ◌∙◌, ℕ, ◌*◌, ◌≤◌, ◌^◌, List, [], ◌∷◌, length, get_or, min, refl, sym, ap, arith, Option, Some, None, Bool, true, not, ◌||◌, ◌&&◌, inl, inr, Result, Ok, Err}
-use Rattle.std.specs.Prelude.{MatchOption}
+use Rattle.std.proofs.Common.{◌≡◌, ◌∙◌, ℕ, ◌+◌, ◌*◌, ◌≤◌, ◌^◌, List, [], ◌∷◌, length, get_or, min, refl, sym, ap, subst, arith, Option, Some, None, Bool, true, false, not, ◌||◌, ◌&&◌, if◌then◌else◌, inl, inr, Result, Ok, Err}
+use Rattle.std.specs.Prelude.{MatchOption, nat_lt, unwrap_or}
+use Rattle.std.specs.List.{list_any}
 use Rattle.std.proofs.Math.Nat.{mul-le-mul_right}
 use Rattle.std.proofs.lemmas.List.{length-map}
 use Rattle.zarr_grids_boxes.specs.Boxes.{Region, product}
@@ -9,10 +10,12 @@ use Rattle.zarr_codecs_meaning.specs.Chains.ArrayCodec.{transpose, reshape, sque
 use Rattle.zarr_codecs_meaning.specs.Chains.Chain.{bytes, packbits, vlen, optional, after_array_codec, then_bytes, sharded}
 use Rattle.zarr_codecs_meaning.specs.Chains.Padding.{no_padding_byte, first_byte, last_byte}
 use Rattle.zarr_codecs_meaning.specs.Chunks.{chunk_part}
+use Rattle.zarr_codecs_meaning.specs.Decoding.{decoded, is_absent, pairs_in}
+use Rattle.zarr_codecs_meaning.specs.Encoding.{Pair, index_size}
 use Rattle.zarr_codecs_meaning.specs.Fits.{array_codec_fits, is_plain}
 use Rattle.zarr_codecs_meaning.specs.Partial.{encodes_in_part}
-use Rattle.zarr_codecs_meaning.specs.Places.{encoded_shape, gather, position_of, source_places, undone_places}
-use Rattle.zarr_codecs_meaning.specs.Types.{Cell, DataType, Elements, is_value, IsTooLarge, byte_width, bytes_in, components}
+use Rattle.zarr_codecs_meaning.specs.Places.{Part, encoded_shape, gather, index_shape, parts_of, position_of, source_places, undone_places}
+use Rattle.zarr_codecs_meaning.specs.Types.{Cell, DataType, Elements, is_value, IsTooLarge, byte_width, bytes_in, components, uint64, zero_filled}
 use Rattle.zarr_codecs_meaning.proofs.ArrayCodecs.{array_codec_count}
 use Rattle.zarr_codecs_meaning.proofs.Lists.{some_same}
 use Rattle.zarr_codecs_meaning.proofs.Once.{array_codec_once}
@@ -25,7 +28,8 @@ use Rattle.zarr_codecs_traits.specs.Capabilities.{decodes_parts}
 use Rattle.zarr_codecs_traits.specs.Indexers.{in_box, numbers_asked}
 use Rattle.zarr_codecs_traits.specs.Arrays.{coded}
 use Rattle.zarr_codecs_traits.specs.Outcomes.{DecodesArray, DecodesPart}
-use Rattle.zarr_codecs_traits.specs.ReadBytes.{bytes_of_numbers, most_read}
+use Rattle.zarr_codecs_traits.specs.PartWriting.{is_met}
+use Rattle.zarr_codecs_traits.specs.ReadBytes.{bytes_of_numbers, most_read, slices_met}
 use Rattle.zarr_codecs_boxes.specs.Regions.{encoded_region}
 use Rattle.zarr_codecs_boxes.specs.Updates.{IsBoxIn}
 use Rattle.zarr_codecs_boxes.proofs.Moved.{fits_box}
@@ -36,7 +40,7 @@ use Rattle.zarr_codecs_around.specs.Boxes.{takes_any_order}
 use Rattle.zarr_codecs_around.specs.Views.{with_array_codecs}
 use Rattle.zarr_codecs_around.proofs.Counts.{array_codec_places}
 use Rattle.zarr_codecs_around.proofs.ArrayCodecs.{fit_after, larger_before, not_invalid, same_part, unfit_after}
-use Rattle.zarr_codecs_around.proofs.Picked.{AreBelow, part_cells, part_count, part_picked, part_unpicked, picked}
+use Rattle.zarr_codecs_around.proofs.Picked.{AreBelow, IsAnyOf, any_moved, any_picked, part_cells, part_count, part_picked, part_unpicked, picked}
 use Rattle.zarr_codecs_around.proofs.WritingAfter.{undone_once}
 
 -- ---- a box, and the box that it becomes
@@ -135,39 +139,83 @@ box_unread codec chain elements shape stored region moved e b h = absurd h
 
 -- ---- how many bytes are taken
 
-same_count : (codec : ArrayCodec) (shape ns ms : List ℕ) → length ns ≡ length ms → length (moved_numbers codec shape ns) ≡ length (moved_numbers codec shape ms)
-same_count codec shape ns ms same = length-map ns (λ n. position_of n (source_places codec shape)) ∙ (same ∙ sym (length-map ms (λ n. position_of n (source_places codec shape))))
+-- numbers are as many as others, and a test that one of them passes, one of the others does
+pub record AreAlike (ns ms : List ℕ) : Type 0 where
+  pub many : length ns ≡ length ms
+  pub ahead : IsAnyOf ns ms
+  pub back : IsAnyOf ms ns
 
-any_order : (chain : Chain) (type : DataType) (shape ns ms : List ℕ) (size : ℕ) → takes_any_order chain ≡ true → is_plain chain ≡ true → length ns ≡ length ms → bytes_of_numbers chain type shape ns size ≡ bytes_of_numbers chain type shape ms size
-any_order (bytes order) type shape ns ms size takes plain same = ap (λ n. min (n * bytes_in (components type)) size) same
-any_order (packbits no_padding_byte first last) type shape ns ms size takes plain same = absurd (cc)
-any_order (packbits first_byte first last) type shape ns ms size takes plain same = refl
-any_order (packbits last_byte first last) type shape ns ms size takes plain same = refl
-any_order (vlen index «data» width location) type shape ns ms size takes plain same = refl
-any_order (optional mask values) type shape ns ms size takes plain same = refl
-any_order (after_array_codec (transpose order) chain) type shape ns ms size takes plain same =
-    any_order chain type (encoded_shape (transpose order) shape) (moved_numbers (transpose order) shape ns) (moved_numbers (transpose order) shape ms) size takes plain (same_count (transpose order) shape ns ms same)
-any_order (after_array_codec (reshape entries) chain) type shape ns ms size takes plain same =
-    any_order chain type (encoded_shape (reshape entries) shape) (moved_numbers (reshape entries) shape ns) (moved_numbers (reshape entries) shape ms) size
-    (ap (λ (b : Bool). (b && encodes_in_part chain) || not (decodes_parts chain)) (sym plain) ∙ takes) plain (same_count (reshape entries) shape ns ms same)
-any_order (after_array_codec squeeze chain) type shape ns ms size takes plain same =
-    any_order chain type (encoded_shape squeeze shape) (moved_numbers squeeze shape ns) (moved_numbers squeeze shape ms) size takes plain (same_count squeeze shape ns ms same)
-any_order (then_bytes chain codec) type shape ns ms size takes plain same = refl
-any_order (sharded subchunk inner index location) type shape ns ms size takes plain same = refl
+pub same_answer : (a b : Bool) → (a ≡ true → b ≡ true) → (b ≡ true → a ≡ true) → a ≡ b
+same_answer true b ahead back = sym (ahead refl)
+same_answer false true ahead back = back refl
+same_answer false false ahead back = refl
 
-any_order_after : (codecs : List ArrayCodec) (chain : Chain) (type : DataType) (shape ns ms : List ℕ) (size : ℕ) → takes_any_order chain ≡ true → is_plain (with_array_codecs codecs chain) ≡ true → length ns ≡ length ms
-    → bytes_of_numbers (with_array_codecs codecs chain) type shape ns size ≡ bytes_of_numbers (with_array_codecs codecs chain) type shape ms size
-any_order_after [] chain type shape ns ms size takes plain same = any_order chain type shape ns ms size takes plain same
-any_order_after (codec ∷ codecs) chain type shape ns ms size takes plain same =
-    any_order_after codecs chain type (encoded_shape codec shape) (moved_numbers codec shape ns) (moved_numbers codec shape ms) size takes plain (same_count codec shape ns ms same)
+pub moved_alike : (codec : ArrayCodec) (shape ns ms : List ℕ) → AreAlike ns ms → AreAlike (moved_numbers codec shape ns) (moved_numbers codec shape ms)
+moved_alike codec shape ns ms alike =
+    let move = λ (n : ℕ). position_of n (source_places codec shape) in
+    record {
+      many = length-map ns move ∙ (alike.many ∙ sym (length-map ms move));
+      ahead = any_moved move ns ms alike.ahead;
+      back = any_moved move ms ns alike.back;
+    }
 
--- as many bytes are taken for the box as for the box that it becomes
-pub box_most : (codec : ArrayCodec) (codecs : List ArrayCodec) (chain : Chain) (type : DataType) (shape : List ℕ) (stored : Option (List ℕ)) (region moved : Region) → takes_any_order chain ≡ true → is_plain (with_array_codecs codecs chain) ≡ true
-    → IsMovedBox codec shape region moved
-    → most_read (with_array_codecs codecs chain) type (encoded_shape codec shape) stored (in_box moved) ≡ most_read (with_array_codecs (codec ∷ codecs) chain) type shape stored (in_box region)
-box_most codec codecs chain type shape None region moved takes plain b = refl
-box_most codec codecs chain type shape (Some value) region moved takes plain b =
+-- the same subchunks are met
+slices_alike : (ns ms : List ℕ) (parts : List Part) (pairs : List Pair) → AreAlike ns ms → slices_met ns parts pairs ≡ slices_met ms parts pairs
+slices_alike ns ms [] pairs alike = refl
+slices_alike ns ms (part ∷ parts) [] alike = refl
+slices_alike ns ms (part ∷ parts) (pair ∷ pairs) alike =
+    let test = λ (n : ℕ). nat_lt (position_of n part.places) (length part.places) in
+    let met = same_answer (list_any test ns) (list_any test ms) (alike.ahead test) (alike.back test) in
+    ap (λ (b : Bool). (if b && not (is_absent pair) then pair.1 else 0) + slices_met ns parts pairs) met
+    ∙ ap (λ n. (if is_met ms part && not (is_absent pair) then pair.1 else 0) + n) (slices_alike ns ms parts pairs alike)
+
+-- a chain behind a `reshape` takes any order where it does so with it
+takes_behind : (plain partly others : Bool) → ((plain && partly) || others) ≡ true → (partly || others) ≡ true
+takes_behind true partly others takes = takes
+takes_behind false true others takes = refl
+takes_behind false false others takes = takes
+
+pub any_order : (chain : Chain) (type : DataType) (shape ns ms value : List ℕ) → takes_any_order chain ≡ true → AreAlike ns ms → bytes_of_numbers chain type shape ns value ≡ bytes_of_numbers chain type shape ms value
+any_order (bytes order) type shape ns ms value takes alike = ap (λ n. min (n * bytes_in (components type)) (length value)) alike.many
+any_order (packbits no_padding_byte first last) type shape ns ms value takes alike = absurd (cc)
+any_order (packbits first_byte first last) type shape ns ms value takes alike = refl
+any_order (packbits last_byte first last) type shape ns ms value takes alike = refl
+any_order (vlen index «data» width location) type shape ns ms value takes alike = refl
+any_order (optional mask values) type shape ns ms value takes alike = refl
+any_order (after_array_codec (transpose order) chain) type shape ns ms value takes alike =
+    any_order chain type (encoded_shape (transpose order) shape) (moved_numbers (transpose order) shape ns) (moved_numbers (transpose order) shape ms) value takes (moved_alike (transpose order) shape ns ms alike)
+any_order (after_array_codec (reshape entries) chain) type shape ns ms value takes alike =
+    any_order chain type (encoded_shape (reshape entries) shape) (moved_numbers (reshape entries) shape ns) (moved_numbers (reshape entries) shape ms) value
+    (takes_behind (is_plain chain) (encodes_in_part chain) (not (decodes_parts chain)) takes) (moved_alike (reshape entries) shape ns ms alike)
+any_order (after_array_codec squeeze chain) type shape ns ms value takes alike =
+    any_order chain type (encoded_shape squeeze shape) (moved_numbers squeeze shape ns) (moved_numbers squeeze shape ms) value takes (moved_alike squeeze shape ns ms alike)
+any_order (then_bytes chain codec) type shape ns ms value takes alike = refl
+any_order (sharded subchunk inner index location) type shape ns ms value takes alike =
+    let pairs_shape = index_shape shape subchunk in
+    ap (λ n. index_size index pairs_shape + n) (slices_alike ns ms (parts_of shape subchunk) (unwrap_or (pairs_in (decoded index (zero_filled uint64) pairs_shape) location (index_size index pairs_shape) value) []) alike)
+
+any_order_after : (codecs : List ArrayCodec) (chain : Chain) (type : DataType) (shape ns ms value : List ℕ) → takes_any_order chain ≡ true → AreAlike ns ms
+    → bytes_of_numbers (with_array_codecs codecs chain) type shape ns value ≡ bytes_of_numbers (with_array_codecs codecs chain) type shape ms value
+any_order_after [] chain type shape ns ms value takes alike = any_order chain type shape ns ms value takes alike
+any_order_after (codec ∷ codecs) chain type shape ns ms value takes alike =
+    any_order_after codecs chain type (encoded_shape codec shape) (moved_numbers codec shape ns) (moved_numbers codec shape ms) value takes (moved_alike codec shape ns ms alike)
+
+-- the places of the box that a box becomes are those that its own places become
+pub box_alike : (codec : ArrayCodec) (shape : List ℕ) (region moved : Region) → IsMovedBox codec shape region moved
+    → AreAlike (numbers_asked (encoded_shape codec shape) (in_box moved)) (moved_numbers codec shape (numbers_asked shape (in_box region)))
+box_alike codec shape region moved b =
     let after = numbers_asked (encoded_shape codec shape) (in_box moved) in
     let before = moved_numbers codec shape (numbers_asked shape (in_box region)) in
     let places = source_places codec region.shape in
-    any_order_after codecs chain type (encoded_shape codec shape) after before (length value) takes plain (ap length b.numbers ∙ (length-map places (λ k. get_or before k 0) ∙ (array_codec_count codec region.shape b.fits ∙ (array_codec_places codec region.shape b.fits ∙ sym b.count))))
+    record {
+      many = ap length b.numbers ∙ (length-map places (λ k. get_or before k 0) ∙ (array_codec_count codec region.shape b.fits ∙ (array_codec_places codec region.shape b.fits ∙ sym b.count)));
+      ahead = subst (λ xs. IsAnyOf xs before) (sym b.numbers) (any_picked before places (order_below codec shape region moved b));
+      back = subst (λ xs. IsAnyOf xs after) (sym b.undone) (any_picked after (undone_places codec region.shape) (undone_below codec shape region moved b));
+    }
+
+-- as many bytes are taken for the box as for the box that it becomes
+pub box_most : (codec : ArrayCodec) (codecs : List ArrayCodec) (chain : Chain) (type : DataType) (shape : List ℕ) (stored : Option (List ℕ)) (region moved : Region) → takes_any_order chain ≡ true → IsMovedBox codec shape region moved
+    → most_read (with_array_codecs codecs chain) type (encoded_shape codec shape) stored (in_box moved) ≡ most_read (with_array_codecs (codec ∷ codecs) chain) type shape stored (in_box region)
+box_most codec codecs chain type shape None region moved takes b = refl
+box_most codec codecs chain type shape (Some value) region moved takes b =
+    any_order_after codecs chain type (encoded_shape codec shape) (numbers_asked (encoded_shape codec shape) (in_box moved)) (moved_numbers codec shape (numbers_asked shape (in_box region))) value takes (box_alike codec shape region moved b)

@@ -1,5 +1,5 @@
 -- Boxes that are written through array codecs.
-use Rattle.std.proofs.Common.{◌≡◌, ◌∙◌, ℕ, ◌<◌, List, [], ◌∷◌, length, map, get_or, refl, sym, ap, subst, arith, Option, Some, None, Bool, true, false, MatchBool, inl, inr, Result, Ok, Err}
+use Rattle.std.proofs.Common.{◌≡◌, ◌∙◌, ℕ, ◌<◌, List, [], ◌∷◌, length, map, get_or, refl, sym, ap, subst, arith, Option, Some, None, Bool, true, false, MatchBool, if◌then◌else◌, inl, inr, Result, Ok, Err}
 use Rattle.std.specs.Prelude.{MatchOption, nat_lt}
 use Rattle.std.specs.List.{range_with_len}
 use Rattle.std.proofs.lemmas.List.{get_or-map, length-map}
@@ -16,7 +16,7 @@ use Rattle.zarr_codecs_meaning.specs.Payloads.{Payload}
 use Rattle.zarr_codecs_meaning.specs.Places.{Part, encoded_shape, gather, parts_of, position_of, source_places, undone_places}
 use Rattle.zarr_codecs_meaning.specs.Refusals.{CodecRefuses}
 use Rattle.zarr_codecs_meaning.specs.Standing.{ChunkStands}
-use Rattle.zarr_codecs_meaning.specs.Types.{Cell, Elements, is_fill, is_value}
+use Rattle.zarr_codecs_meaning.specs.Types.{Cell, DataType, Elements, is_fill, is_value}
 use Rattle.zarr_codecs_meaning.proofs.ArrayCodecs.{array_codec_count, length-gather, values_gathered}
 use Rattle.zarr_codecs_meaning.proofs.Covers.{array_codec_covers}
 use Rattle.zarr_codecs_meaning.proofs.Lists.{some_same}
@@ -29,16 +29,21 @@ use Rattle.zarr_codecs_array_to_array.specs.Moving.{moved_numbers}
 use Rattle.zarr_codecs_traits.specs.Indexers.{in_box, listed, numbers_asked, put}
 use Rattle.zarr_codecs_traits.specs.Outcomes.{EncodesArray, IsMoved}
 use Rattle.zarr_codecs_traits.specs.Arrays.{coded, update_of}
-use Rattle.zarr_codecs_traits.specs.PartWriting.{ChunkTight, IsDamaged, IsEncodedInto, IsLostAmong, IsRefusedInto, MeetsLost, NotEncodedInto, PassesLength, StopsPart, StopsWrite, cells_after, cells_shown, only_cell}
+use Rattle.zarr_codecs_traits.specs.PartWriting.{AfterPut, AreMet, ChunkTight, IsDamaged, IsEncodedInto, IsLostAmong, LacksRoom, MeetsLost, MetRefused, NotEncodedInto, PartsRefused, PassesLength, StopsPart, StopsWrite, WriteRefuses, after_write, cells_after, cells_shown, is_met, no_part, only_cell, part_at}
+use Rattle.zarr_codecs_traits.specs.ShardWrites.{Appends, AppendsParts, IsStoredGapless, LeavesParts, most_for_parts}
+use Rattle.zarr_codecs_traits.specs.Sources.{value_length}
+use Rattle.zarr_codecs_traits.proofs.WrittenWhole.{either_by, gives_by}
+use Rattle.zarr_sharding_changes.specs.Changes.{Change}
 use Rattle.zarr_codecs_boxes.specs.Updates.{IsBoxIn}
 use Rattle.zarr_codecs_boxes.proofs.Numbers.{asked_below}
 use Rattle.zarr_codecs_boxes.proofs.Puts.{AreApart, length-numbers, numbers_apart}
 use Rattle.zarr_codecs_boxes.proofs.Moved.{places_or_none}
+use Rattle.zarr_codecs_around.specs.Parts.{SourceWrite, WritesPart}
 use Rattle.zarr_codecs_around.proofs.ArrayCodecs.{not_invalid}
-use Rattle.zarr_codecs_around.proofs.BoxParts.{IsMovedBox, box_too_large, order_below, undone_below}
+use Rattle.zarr_codecs_around.proofs.BoxParts.{AreAlike, IsMovedBox, any_order, box_alike, box_too_large, moved_alike, order_below, same_answer, undone_below}
 use Rattle.zarr_codecs_around.proofs.PartChains.{asked_places}
 use Rattle.zarr_codecs_around.proofs.Picked.{AreBelow, IsAnyOf, any_moved, any_picked, picked, put_picked}
-use Rattle.zarr_codecs_around.proofs.WritingAfter.{are_moved, mapped_at, unwritten_after, unwritten_by_numbers, written_after, written_by_numbers}
+use Rattle.zarr_codecs_around.proofs.WritingAfter.{are_moved, mapped_at, on_written, put_so, writes_after, writes_by_numbers, written_after, written_by_numbers}
 
 -- ---- where the elements are put
 
@@ -190,7 +195,7 @@ box_written codec chain exact elements shape region moved payload turned cells o
 
 refused_turned : (codec : ArrayCodec) (chain : Chain) (elements : Elements) (shape : List ℕ) (region moved : Region) (payload turned : Payload) (stored : Option (List ℕ)) (refuses : List Cell → Type 0)
     → IsMovedBox codec shape region moved → IsTurned codec elements region payload turned
-    → IsRefusedInto (coded chain elements (encoded_shape codec shape)) (update_of (in_box moved) turned stored) refuses → IsRefusedInto (coded chain elements (encoded_shape codec shape)) (update_of (listed (moved_of codec shape region)) payload stored) refuses
+    → AfterPut (coded chain elements (encoded_shape codec shape)) (update_of (in_box moved) turned stored) refuses → AfterPut (coded chain elements (encoded_shape codec shape)) (update_of (listed (moved_of codec shape region)) payload stored) refuses
 refused_turned codec chain elements shape region moved payload turned stored refuses b m h =
     let ns = moved_of codec shape region in
     let after = numbers_asked (encoded_shape codec shape) (in_box moved) in
@@ -208,6 +213,97 @@ refused_turned codec chain elements shape region moved payload turned stored ref
       is = subst refuses there h.is;
     }
 
+room_turned : (codec : ArrayCodec) (chain : Chain) (elements : Elements) (shape : List ℕ) (region moved : Region) (payload turned : Payload) (stored : Option (List ℕ)) → IsMovedBox codec shape region moved → IsTurned codec elements region payload turned
+    → LacksRoom (coded chain elements (encoded_shape codec shape)) (update_of (in_box moved) turned stored) → LacksRoom (coded chain elements (encoded_shape codec shape)) (update_of (listed (moved_of codec shape region)) payload stored)
+room_turned codec chain elements shape region moved payload turned stored b m room =
+    refused_turned codec chain elements shape region moved payload turned stored (PassesLength chain elements (encoded_shape codec shape) stored) b m room
+
+-- ---- what is met, by numbers with the same places
+
+met_alike : (ns ms : List ℕ) (part : Part) → AreAlike ns ms → is_met ns part ≡ is_met ms part
+met_alike ns ms part alike =
+    let test = λ (n : ℕ). nat_lt (position_of n part.places) (length part.places) in
+    same_answer (is_met ns part) (is_met ms part) (alike.ahead test) (alike.back test)
+
+are_met_alike : (ns ms : List ℕ) (parts : List Part) (changes : List Change) → AreAlike ns ms → AreMet ns parts changes → AreMet ms parts changes
+are_met_alike ns ms parts changes alike h = record {
+  below = h.below;
+  met = λ i low. sym (met_alike ns ms (part_at parts changes i) alike) ∙ h.met i low;
+  rising = h.rising;
+  all = λ k low met. h.all k low (met_alike ns ms (get_or parts k no_part) alike ∙ met);
+}
+
+met_refused_alike : (refused : List ℕ → List Cell → Type 0) (fill : Cell) (ns ms : List ℕ) (stored : Option (List ℕ)) (cells : List Cell) (parts : List Part) → AreAlike ns ms
+    → MetRefused refused fill (after_write ns stored cells) parts → MetRefused refused fill (after_write ms stored cells) parts
+met_refused_alike refused fill ns ms stored cells [] alike h = h
+met_refused_alike refused fill ns ms stored cells (part ∷ parts) alike (inl h) = inl (sym (met_alike ns ms part alike) ∙ h.0, h.1, h.2)
+met_refused_alike refused fill ns ms stored cells (part ∷ parts) alike (inr h) = inr (met_refused_alike refused fill ns ms stored cells parts alike h)
+
+parts_refused_alike : (chain : Chain) (elements : Elements) (shape ns ms : List ℕ) (stored : Option (List ℕ)) (cells : List Cell) → AreAlike ns ms → PartsRefused chain elements shape (after_write ns stored cells) → PartsRefused chain elements shape (after_write ms stored cells)
+parts_refused_alike (bytes order) elements shape ns ms stored cells alike h = h
+parts_refused_alike (packbits padding first last) elements shape ns ms stored cells alike h = h
+parts_refused_alike (vlen index «data» width location) elements shape ns ms stored cells alike h = h
+parts_refused_alike (optional mask values) elements shape ns ms stored cells alike h = h
+parts_refused_alike (after_array_codec codec chain) elements shape ns ms stored cells alike h =
+    parts_refused_alike chain elements (encoded_shape codec shape) (moved_numbers codec shape ns) (moved_numbers codec shape ms) stored (gather elements.fill cells (source_places codec shape)) (moved_alike codec shape ns ms alike) h
+parts_refused_alike (then_bytes chain codec) elements shape ns ms stored cells alike h = h
+parts_refused_alike (sharded subchunk inner index location) elements shape ns ms stored cells alike (inl h) =
+    inl (met_refused_alike (CodecRefuses inner elements) elements.fill ns ms stored cells (parts_of shape subchunk) alike h)
+parts_refused_alike (sharded subchunk inner index location) elements shape ns ms stored cells alike (inr h) = inr (h.0, h.1, h.2, are_met_alike ns ms (parts_of shape subchunk) h.1 alike h.3, h.4, h.5)
+
+appends_alike : (chain : Chain) (elements : Elements) (shape ns ms : List ℕ) (stored new : Option (List ℕ)) (cells : List Cell) → AreAlike ns ms → Appends chain elements shape (after_write ns stored cells) new → Appends chain elements shape (after_write ms stored cells) new
+appends_alike (bytes order) elements shape ns ms stored new cells alike h = tt
+appends_alike (packbits padding first last) elements shape ns ms stored new cells alike h = tt
+appends_alike (vlen index «data» width location) elements shape ns ms stored new cells alike h = tt
+appends_alike (optional mask values) elements shape ns ms stored new cells alike h = tt
+appends_alike (after_array_codec codec chain) elements shape ns ms stored new cells alike h =
+    appends_alike chain elements (encoded_shape codec shape) (moved_numbers codec shape ns) (moved_numbers codec shape ms) stored new (gather elements.fill cells (source_places codec shape)) (moved_alike codec shape ns ms alike) h
+appends_alike (then_bytes chain codec) elements shape ns ms stored new cells alike h = tt
+appends_alike (sharded subchunk inner index location) elements shape ns ms stored new cells alike h =
+    λ keeps. (let found = h keeps in (found.0, are_met_alike ns ms (parts_of shape subchunk) found.0 alike found.1, found.2, found.3))
+
+takes_alike : (chain : Chain) (type : DataType) (shape ns ms : List ℕ) (stored : Option (List ℕ)) → AreAlike ns ms → most_for_parts chain type shape stored ns ≡ most_for_parts chain type shape stored ms
+takes_alike (bytes order) type shape ns ms stored alike = refl
+takes_alike (packbits padding first last) type shape ns ms stored alike = refl
+takes_alike (vlen index «data» width location) type shape ns ms stored alike = refl
+takes_alike (optional mask values) type shape ns ms stored alike = refl
+takes_alike (after_array_codec codec chain) type shape ns ms stored alike = takes_alike chain type (encoded_shape codec shape) (moved_numbers codec shape ns) (moved_numbers codec shape ms) stored (moved_alike codec shape ns ms alike)
+takes_alike (then_bytes chain codec) type shape ns ms stored alike = refl
+takes_alike (sharded subchunk inner index location) type shape ns ms None alike = refl
+takes_alike (sharded subchunk inner index location) type shape ns ms (Some value) alike = any_order (sharded subchunk inner index location) type shape ns ms value refl alike
+
+-- ---- a box that was turned
+
+refuses_turned : (codec : ArrayCodec) (chain : Chain) (elements : Elements) (shape : List ℕ) (region moved : Region) (payload turned : Payload) (stored : Option (List ℕ)) (after : List Cell) → IsMovedBox codec shape region moved → IsTurned codec elements region payload turned
+    → WriteRefuses (coded chain elements (encoded_shape codec shape)) (update_of (in_box moved) turned stored) after → WriteRefuses (coded chain elements (encoded_shape codec shape)) (update_of (listed (moved_of codec shape region)) payload stored) after
+refuses_turned codec chain elements shape region moved payload turned stored after b m h =
+    let array = coded chain elements (encoded_shape codec shape) in
+    let ns = numbers_asked (encoded_shape codec shape) (in_box moved) in
+    let ms = moved_of codec shape region in
+    let whole = CodecRefuses chain elements (encoded_shape codec shape) after in
+    either_by (encodes_in_part chain) (PartsRefused chain elements (encoded_shape codec shape) (after_write ns stored after)) (PartsRefused chain elements (encoded_shape codec shape) (after_write ms stored after))
+    (LacksRoom array (update_of (in_box moved) turned stored)) (LacksRoom array (update_of (listed ms) payload stored)) whole whole
+    (parts_refused_alike chain elements (encoded_shape codec shape) ns ms stored after (box_alike codec shape region moved b)) (room_turned codec chain elements shape region moved payload turned stored b m) (λ is. is) h
+
+leaves_turned : (codec : ArrayCodec) (chain : Chain) (elements : Elements) (shape : List ℕ) (region moved : Region) (payload turned : Payload) (stored new : Option (List ℕ)) → IsMovedBox codec shape region moved → IsTurned codec elements region payload turned
+    → LeavesParts (coded chain elements (encoded_shape codec shape)) (update_of (in_box moved) turned stored) new → LeavesParts (coded chain elements (encoded_shape codec shape)) (update_of (listed (moved_of codec shape region)) payload stored) new
+leaves_turned codec chain elements shape region moved payload turned stored new b m h =
+    let array = coded chain elements (encoded_shape codec shape) in
+    let ns = numbers_asked (encoded_shape codec shape) (in_box moved) in
+    let ms = moved_of codec shape region in
+    let inside = update_of (in_box moved) turned stored in
+    let outside = update_of (listed ms) payload stored in
+    let anew = IsStoredGapless chain (encoded_shape codec shape) new in
+    let first : List Cell → Type 0 = λ after. Appends chain elements (encoded_shape codec shape) (after_write ns stored after) new in
+    let second : List Cell → Type 0 = λ after. Appends chain elements (encoded_shape codec shape) (after_write ms stored after) new in
+    record {
+      placed = h.placed;
+      parts = either_by (encodes_in_part chain) (AppendsParts array inside new) (AppendsParts array outside new) (LacksRoom array inside) (LacksRoom array outside) anew anew
+          (λ appended. refused_turned codec chain elements shape region moved payload turned stored second b m
+          (put_so array inside first second (λ after is. appends_alike chain elements (encoded_shape codec shape) ns ms stored new after (box_alike codec shape region moved b) is) appended))
+          (room_turned codec chain elements shape region moved payload turned stored b m) (λ is. is) h.parts;
+    }
+
 -- the elements that the codec moved are as many values as the moved box has places
 pub turned_valid : (codec : ArrayCodec) (elements : Elements) (shape : List ℕ) (region moved : Region) (payload turned : Payload) (e : CodecError) → is_value elements.type elements.fill ≡ true → IsMovedBox codec shape region moved
     → IsTurned codec elements region payload turned → IsInvalid elements.type turned (length (numbers_asked (encoded_shape codec shape) (in_box moved))) e → ⊥
@@ -221,7 +317,7 @@ stopped_turned : (codec : ArrayCodec) (chain : Chain) (elements : Elements) (sha
 stopped_turned codec chain elements shape region moved payload turned stored b m (inl damage) =
     inl (damaged_any chain elements (encoded_shape codec shape) stored (numbers_asked (encoded_shape codec shape) (in_box moved)) (moved_of codec shape region) (box_any codec shape region moved b) damage)
 stopped_turned codec chain elements shape region moved payload turned stored b m (inr full) =
-    inr (full.0, λ lossless. refused_turned codec chain elements shape region moved payload turned stored (PassesLength chain elements (encoded_shape codec shape) stored) b m (full.1 lossless))
+    inr (full.0, room_turned codec chain elements shape region moved payload turned stored b m full.1)
 
 unwritten_turned : {A : Type 0} (codec : ArrayCodec) (chain : Chain) (elements : Elements) (shape : List ℕ) (region moved : Region) (payload turned : Payload) (stored : Option (List ℕ)) (r : Result A CodecError) → is_value elements.type elements.fill ≡ true
     → IsMovedBox codec shape region moved → IsTurned codec elements region payload turned
@@ -232,19 +328,38 @@ unwritten_turned codec chain elements shape region moved payload turned stored (
 unwritten_turned codec chain elements shape region moved payload turned stored (Err error.Size) fill b m (inl large) = inl large
 unwritten_turned codec chain elements shape region moved payload turned stored (Err error.Size) fill b m (inr h) = inr (refused_turned codec chain elements shape region moved payload turned stored _ b m h)
 unwritten_turned codec chain elements shape region moved payload turned stored (Err error.Codec) fill b m h =
-    refused_turned codec chain elements shape region moved payload turned stored (CodecRefuses chain elements (encoded_shape codec shape)) b m h
+    let array = coded chain elements (encoded_shape codec shape) in
+    let inside = update_of (in_box moved) turned stored in
+    let outside = update_of (listed (moved_of codec shape region)) payload stored in
+    refused_turned codec chain elements shape region moved payload turned stored (WriteRefuses array outside) b m
+    (put_so array inside (WriteRefuses array inside) (WriteRefuses array outside) (λ after why. refuses_turned codec chain elements shape region moved payload turned stored after b m why) h)
 unwritten_turned codec chain elements shape region moved payload turned stored (Err error.Damage) fill b m h = (h.0, stopped_turned codec chain elements shape region moved payload turned stored b m h.1)
 unwritten_turned codec chain elements shape region moved payload turned stored (Err error.Source) fill b m h = tt
 unwritten_turned codec chain elements shape region moved payload turned stored (Err error.Memory) fill b m h = tt
 unwritten_turned codec chain elements shape region moved payload turned stored (Err e) fill b m h = absurd (turned_valid codec elements shape region moved payload turned e fill b m h.1)
 
-pub box_unwritten : {A : Type 0} (codec : ArrayCodec) (chain : Chain) (elements : Elements) (shape : List ℕ) (region moved : Region) (payload turned : Payload) (stored : Option (List ℕ)) (r : Result A CodecError) → is_value elements.type elements.fill ≡ true
+writes_turned : {A : Type 0} (codec : ArrayCodec) (chain : Chain) (elements : Elements) (shape : List ℕ) (region moved : Region) (payload turned : Payload) (stored : Option (List ℕ)) (source : SourceWrite) (r : Result A CodecError) → is_value elements.type elements.fill ≡ true
+    → IsMovedBox codec shape region moved → IsTurned codec elements region payload turned
+    → WritesPart (coded chain elements (encoded_shape codec shape)) (update_of (in_box moved) turned stored) source r → WritesPart (coded chain elements (encoded_shape codec shape)) (update_of (listed (moved_of codec shape region)) payload stored) source r
+writes_turned codec chain elements shape region moved payload turned stored source r fill b m h =
+    let array = coded chain elements (encoded_shape codec shape) in
+    let inside = update_of (in_box moved) turned stored in
+    let outside = update_of (listed (moved_of codec shape region)) payload stored in
+    let same = ap (λ n. if encodes_in_part chain then n else value_length stored)
+    (takes_alike chain elements.type (encoded_shape codec shape) (numbers_asked (encoded_shape codec shape) (in_box moved)) (moved_of codec shape region) stored (box_alike codec shape region moved b)) in
+    record {
+      parts = on_written r (LeavesParts array inside source.new) (LeavesParts array outside source.new) (leaves_turned codec chain elements shape region moved payload turned stored source.new b m) h.parts;
+      cause = unwritten_turned codec chain elements shape region moved payload turned stored r fill b m h.cause;
+      given = λ ranges. gives_by array array inside outside source.before source.after same refl (room_turned codec chain elements shape region moved payload turned stored b m) (h.given ranges);
+    }
+
+pub box_writes : {A : Type 0} (codec : ArrayCodec) (chain : Chain) (elements : Elements) (shape : List ℕ) (region moved : Region) (payload turned : Payload) (stored : Option (List ℕ)) (source : SourceWrite) (r : Result A CodecError) → is_value elements.type elements.fill ≡ true
     → IsMovedBox codec shape region moved → IsTurned codec elements region payload turned → encodes_in_part (after_array_codec codec chain) ≡ encodes_in_part chain
-    → NotEncodedInto (coded chain elements (encoded_shape codec shape)) (update_of (in_box moved) turned stored) r → NotEncodedInto (coded (after_array_codec codec chain) elements shape) (update_of (in_box region) payload stored) r
-box_unwritten codec chain elements shape region moved payload turned stored r fill b m partly h =
+    → WritesPart (coded chain elements (encoded_shape codec shape)) (update_of (in_box moved) turned stored) source r → WritesPart (coded (after_array_codec codec chain) elements shape) (update_of (in_box region) payload stored) source r
+box_writes codec chain elements shape region moved payload turned stored source r fill b m partly h =
     let numbers = numbers_asked shape (in_box region) in
-    unwritten_by_numbers (after_array_codec codec chain) elements shape (in_box region) payload stored r b.box.inside
-    (unwritten_after codec chain elements shape numbers payload stored r b.fit (asked_places shape (in_box region) b.box.inside) partly (unwritten_turned codec chain elements shape region moved payload turned stored r fill b m h))
+    writes_by_numbers (after_array_codec codec chain) elements shape (in_box region) payload stored source r b.box.inside
+    (writes_after codec chain elements shape numbers payload stored source r b.fit (asked_places shape (in_box region) b.box.inside) partly (writes_turned codec chain elements shape region moved payload turned stored source r fill b m h))
 
 -- elements that the codec does not move
 pub box_unturned : (A : Type 0) (codec : ArrayCodec) (chain : Chain) (elements : Elements) (shape : List ℕ) (region moved : Region) (payload : Payload) (stored : Option (List ℕ)) (e : CodecError) → IsMovedBox codec shape region moved

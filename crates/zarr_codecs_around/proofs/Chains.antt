@@ -18,6 +18,7 @@ use Rattle.zarr_codecs_traits.specs.Arrays.{coded}
 use Rattle.zarr_codecs_traits.specs.Outcomes.{MakesBytes, UndoesBytes, IsEncoded, Encodes, Decodes}
 use Rattle.zarr_codecs_around.specs.Codecs.{all_encoded, all_decoded}
 use Rattle.zarr_codecs_around.specs.Views.{with_codecs}
+use Rattle.zarr_codecs_around.proofs.GaplessAround.{gapless_with}
 
 -- ---- what codecs after a chain leave as it is
 
@@ -60,7 +61,7 @@ decoded_with chain (codec ∷ codecs) elements shape value = decoded_with (then_
 -- what a codec refuses, or one after it
 refused_from : (chain : Chain) (codec : ByteCodec) (codecs : List ByteCodec) (elements : Elements) (shape made : List ℕ) (cells : List Cell) (next : Option (List ℕ)) → encoded chain elements shape cells ≡ Some made → codec.encode made ≡ next
     → ((more : List ℕ) → codec.encode made ≡ Some more → CodecRefuses (with_codecs (then_bytes chain codec) codecs) elements shape cells) → CodecRefuses (with_codecs (then_bytes chain codec) codecs) elements shape cells
-refused_from chain codec codecs elements shape made cells None is e later = refuses_with (then_bytes chain codec) codecs elements shape cells (inr (made, inl is, e))
+refused_from chain codec codecs elements shape made cells None is e later = refuses_with (then_bytes chain codec) codecs elements shape cells (inr (made, is, e))
 refused_from chain codec codecs elements shape made cells (Some more) is e later = later more e
 
 -- what codecs refuse that a chain made
@@ -87,6 +88,7 @@ encodes_with chain codecs elements shape made payload (Ok value) cells lawful fi
         encodes = λ _. whole;
         stands = λ lossless. (laws_of whole_chain lawful).stands elements shape value.items cells fit (inl lossless) are whole;
         sized = encoded_size whole_chain elements shape value.items cells lawful fit are whole;
+        gapless = gapless_with chain codecs shape made value.items lawful is done.gapless;
       },
     )
 encodes_with chain codecs elements shape made payload (Err error.Codec) cells lawful fill done is =
@@ -109,7 +111,7 @@ refused_with chain codecs elements shape payload e h = (fits_with chain codecs e
 -- what a function of the elements makes is more than any codec promises
 pub encodes_alike : (chain : Chain) (exact : Bool) (elements : Elements) (shape : List ℕ) (payload : Payload) (r : Result (Vec ℕ Global) CodecError) → Encodes (coded chain elements shape) true payload r → Encodes (coded chain elements shape) exact payload r
 encodes_alike chain exact elements shape payload (Ok value) h =
-    (h.0, record { valid = h.1.valid; fit = h.1.fit; encodes = λ _. h.1.encodes refl; stands = h.1.stands; sized = h.1.sized })
+    (h.0, record { valid = h.1.valid; fit = h.1.fit; encodes = λ _. h.1.encodes refl; stands = h.1.stands; sized = h.1.sized; gapless = h.1.gapless })
 encodes_alike chain exact elements shape payload (Err error.Fit) h = h
 encodes_alike chain exact elements shape payload (Err error.Codec) h = h
 encodes_alike chain exact elements shape payload (Err error.Size) h = h

@@ -1,3 +1,4 @@
+mod GaplessAround
 pub mod Chains
 pub mod PartChains
 pub mod Counts

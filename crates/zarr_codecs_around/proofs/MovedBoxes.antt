@@ -2,7 +2,7 @@
 use Rattle.std.proofs.Common.{◌≡◌, ◌∙◌, ℕ, List, [], ◌∷◌, ◌++◌, refl, sym, ap, subst, Option, Bool, true, false, ◌&&◌, inl, Result, Ok, Err}
 use Rattle.zarr_grids_boxes.specs.Boxes.{Region, product}
 use Rattle.zarr_codecs_meaning.specs.Chains.{ArrayCodec, Chain}
-use Rattle.zarr_codecs_meaning.specs.Fits.{array_codec_fits, fits, is_plain}
+use Rattle.zarr_codecs_meaning.specs.Fits.{array_codec_fits, fits}
 use Rattle.zarr_codecs_meaning.specs.Partial.{encodes_in_part}
 use Rattle.zarr_codecs_meaning.specs.Payloads.{Payload}
 use Rattle.zarr_codecs_meaning.specs.Places.{encoded_shape}
@@ -16,20 +16,20 @@ use Rattle.zarr_codecs_arrays.specs.declared.error.CodecError.TheVariants as err
 use Rattle.zarr_codecs_traits.specs.Indexers.{Asked, in_box}
 use Rattle.zarr_codecs_traits.specs.Arrays.{coded, update_of}
 use Rattle.zarr_codecs_traits.specs.Outcomes.{DecodesArray, DecodesPart, EncodesArray}
-use Rattle.zarr_codecs_traits.specs.PartWriting.{IsEncodedInto, IsPlaced, NotEncodedInto}
+use Rattle.zarr_codecs_traits.specs.PartWriting.{IsEncodedInto, NotEncodedInto}
 use Rattle.zarr_codecs_traits.specs.ReadBytes.{most_read}
 use Rattle.zarr_codecs_traits.specs.Sources.{refused_after}
-use Rattle.zarr_codecs_traits.proofs.Damage.{placed_before}
 use Rattle.zarr_codecs_boxes.specs.Updates.{IsBoxIn}
 use Rattle.zarr_codecs_boxes.proofs.Numbers.{moved_in}
 use Rattle.zarr_codecs_boxes.proofs.Puts.{length-numbers}
 use Rattle.zarr_codecs_around.specs.ArrayCodecs.{all_fit}
 use Rattle.zarr_codecs_around.specs.Boxes.{takes_any_order}
 use Rattle.zarr_codecs_around.specs.MovedBoxes.{IsBoxAfter, IsNextBox, IsTurnedTo, MovesBox, MovesBoxes, TurnsBox, UndoesBox}
+use Rattle.zarr_codecs_around.specs.Parts.{SourceWrite, WritesPart}
 use Rattle.zarr_codecs_around.specs.Views.{with_array_codecs}
 use Rattle.zarr_codecs_around.proofs.AllArrayCodecs.{never_before, with_more}
 use Rattle.zarr_codecs_around.proofs.BoxParts.{box_most, box_read, box_too_large, box_unread, moved_box}
-use Rattle.zarr_codecs_around.proofs.BoxWrites.{IsTurned, box_unwritten, box_written, turned_valid}
+use Rattle.zarr_codecs_around.proofs.BoxWrites.{IsTurned, box_writes, box_written, turned_valid}
 use Rattle.zarr_codecs_around.proofs.Counts.{array_codec_places}
 use Rattle.zarr_codecs_around.proofs.WritingAfter.{partly_each}
 
@@ -159,23 +159,17 @@ boxes_written (codec ∷ codecs) chain exact elements shape region payload last 
     let inner = boxes_written codecs chain exact elements (encoded_shape codec shape) h.next h.turned last moved made old new b.inside h.rest w in
     (h.moves.cells, box_written codec (with_array_codecs codecs chain) exact elements shape region h.next payload h.turned inner.0 old new b h.moves inner.1)
 
-pub boxes_placed : (codecs : List ArrayCodec) (chain : Chain) (elements : Elements) (shape : List ℕ) (region : Region) (payload : Payload) (last : List ℕ) (moved : Region) (made : Payload) (stored : Option (List ℕ)) → IsTurnedTo codecs elements shape region payload last moved made
-    → IsPlaced chain last stored → IsPlaced (with_array_codecs codecs chain) shape stored
-boxes_placed [] chain elements shape region payload last moved made stored h w = subst (λ es. IsPlaced chain es stored) h.0 w
-boxes_placed (codec ∷ codecs) chain elements shape region payload last moved made stored h w =
-    placed_before codec (with_array_codecs codecs chain) shape stored (boxes_placed codecs chain elements (encoded_shape codec shape) h.next h.turned last moved made stored h.rest w)
-
-pub boxes_unwritten : {A : Type 0} (codecs : List ArrayCodec) (chain : Chain) (elements : Elements) (shape : List ℕ) (region : Region) (payload : Payload) (last : List ℕ) (moved : Region) (made : Payload) (stored : Option (List ℕ)) (r : Result A CodecError)
+pub boxes_writes : {A : Type 0} (codecs : List ArrayCodec) (chain : Chain) (elements : Elements) (shape : List ℕ) (region : Region) (payload : Payload) (last : List ℕ) (moved : Region) (made : Payload) (stored : Option (List ℕ)) (source : SourceWrite) (r : Result A CodecError)
     → is_value elements.type elements.fill ≡ true → IsBoxIn shape region → IsTurnedTo codecs elements shape region payload last moved made → encodes_in_part (with_array_codecs codecs chain) ≡ encodes_in_part chain
-    → NotEncodedInto (coded chain elements last) (update_of (in_box moved) made stored) r → NotEncodedInto (coded (with_array_codecs codecs chain) elements shape) (update_of (in_box region) payload stored) r
-boxes_unwritten [] chain elements shape region payload last moved made stored r fill box h partly w =
-    subst (λ es. NotEncodedInto (coded chain elements es) (update_of (in_box region) payload stored) r) h.0
-    (subst (λ (r' : Region). NotEncodedInto (coded chain elements last) (update_of (in_box r') payload stored) r) h.1 (subst (λ (p : Payload). NotEncodedInto (coded chain elements last) (update_of (in_box moved) p stored) r) h.2 w))
-boxes_unwritten (codec ∷ codecs) chain elements shape region payload last moved made stored r fill box h partly w =
+    → WritesPart (coded chain elements last) (update_of (in_box moved) made stored) source r → WritesPart (coded (with_array_codecs codecs chain) elements shape) (update_of (in_box region) payload stored) source r
+boxes_writes [] chain elements shape region payload last moved made stored source r fill box h partly w =
+    subst (λ es. WritesPart (coded chain elements es) (update_of (in_box region) payload stored) source r) h.0
+    (subst (λ (r' : Region). WritesPart (coded chain elements last) (update_of (in_box r') payload stored) source r) h.1 (subst (λ (p : Payload). WritesPart (coded chain elements last) (update_of (in_box moved) p stored) source r) h.2 w))
+boxes_writes (codec ∷ codecs) chain elements shape region payload last moved made stored source r fill box h partly w =
     let b = moved_box codec shape region h.next h.fit box h.region_is in
     let each = partly_each codec codecs chain partly in
-    box_unwritten codec (with_array_codecs codecs chain) elements shape region h.next payload h.turned stored r fill b h.moves each.0
-    (boxes_unwritten codecs chain elements (encoded_shape codec shape) h.next h.turned last moved made stored r fill b.inside h.rest each.1 w)
+    box_writes codec (with_array_codecs codecs chain) elements shape region h.next payload h.turned stored source r fill b h.moves each.0
+    (boxes_writes codecs chain elements (encoded_shape codec shape) h.next h.turned last moved made stored source r fill b.inside h.rest each.1 w)
 
 -- elements that are not moved are not written
 pub unturned_into : (codecs : List ArrayCodec) (chain : Chain) (elements : Elements) (shape : List ℕ) (region : Region) (payload : Payload) (stored : Option (List ℕ)) (e : CodecError) → IsBoxIn shape region → fits (with_array_codecs codecs chain) elements.type shape ≡ true
@@ -223,14 +217,14 @@ unboxed_source A codecs shape region error.Memory h count = refl
 unboxed_source A codecs shape region e h count = absurd h
 
 -- as many bytes are taken for the box as for the box that it becomes
-pub boxes_most : (first last : List ArrayCodec) (chain : Chain) (type : DataType) (shape : List ℕ) (stored : Option (List ℕ)) (region : Region) (mid : List ℕ) (between : Region) → takes_any_order chain ≡ true → is_plain (with_array_codecs (first ++ last) chain) ≡ true
+pub boxes_most : (first last : List ArrayCodec) (chain : Chain) (type : DataType) (shape : List ℕ) (stored : Option (List ℕ)) (region : Region) (mid : List ℕ) (between : Region) → takes_any_order chain ≡ true
     → IsBoxIn shape region → IsBoxAfter first shape region mid between
     → most_read (with_array_codecs last chain) type mid stored (in_box between) ≡ most_read (with_array_codecs (first ++ last) chain) type shape stored (in_box region)
-boxes_most [] last chain type shape stored region mid between takes plain box h =
+boxes_most [] last chain type shape stored region mid between takes box h =
     ap (λ es. most_read (with_array_codecs last chain) type es stored (in_box between)) h.0 ∙ ap (λ (r : Region). most_read (with_array_codecs last chain) type shape stored (in_box r)) h.1
-boxes_most (codec ∷ first) last chain type shape stored region mid between takes plain box h =
+boxes_most (codec ∷ first) last chain type shape stored region mid between takes box h =
     let b = moved_box codec shape region h.next h.fit box h.region_is in
-    boxes_most first last chain type (encoded_shape codec shape) stored h.next mid between takes plain b.inside h.rest ∙ box_most codec (first ++ last) chain type shape stored region h.next takes plain b
+    boxes_most first last chain type (encoded_shape codec shape) stored h.next mid between takes b.inside h.rest ∙ box_most codec (first ++ last) chain type shape stored region h.next takes b
 
 -- ---- elements that are moved back
 

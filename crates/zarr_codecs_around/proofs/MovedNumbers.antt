@@ -15,17 +15,17 @@ use Rattle.zarr_codecs_array_to_array.specs.Moving.{are_places, moved_numbers}
 use Rattle.zarr_codecs_traits.specs.Indexers.{Asked, listed}
 use Rattle.zarr_codecs_traits.specs.Arrays.{coded, update_of}
 use Rattle.zarr_codecs_traits.specs.Outcomes.{DecodesPart}
-use Rattle.zarr_codecs_traits.specs.PartWriting.{IsEncodedInto, IsPlaced, NotEncodedInto}
+use Rattle.zarr_codecs_traits.specs.PartWriting.{IsEncodedInto, NotEncodedInto}
 use Rattle.zarr_codecs_traits.specs.ReadBytes.{most_of_numbers}
-use Rattle.zarr_codecs_traits.proofs.Damage.{placed_before}
 use Rattle.zarr_codecs_around.specs.ArrayCodecs.{all_fit, shape_after}
 use Rattle.zarr_codecs_around.specs.MovedNumbers.{MovesNumbers, numbers_after}
+use Rattle.zarr_codecs_around.specs.Parts.{SourceWrite, WritesPart}
 use Rattle.zarr_codecs_around.specs.Views.{with_array_codecs}
 use Rattle.zarr_codecs_around.proofs.AllArrayCodecs.{never_before}
 use Rattle.zarr_codecs_around.proofs.ArrayCodecs.{lists_after}
 use Rattle.zarr_codecs_around.proofs.Counts.{array_codec_places}
 use Rattle.zarr_codecs_around.proofs.Taken.{after_most}
-use Rattle.zarr_codecs_around.proofs.WritingAfter.{are_moved, partly_each, unwritten_after, written_after}
+use Rattle.zarr_codecs_around.proofs.WritingAfter.{are_moved, partly_each, writes_after, written_after}
 
 -- ---- codecs that are left
 
@@ -83,20 +83,16 @@ written_all (codec ∷ codecs) chain exact elements shape numbers payload cells 
     written_after codec (with_array_codecs codecs chain) exact elements shape numbers payload cells old new two.0 inside
     (written_all codecs chain exact elements (encoded_shape codec shape) (moved_numbers codec shape numbers) payload cells old new two.1 within h)
 
-pub placed_all : (codecs : List ArrayCodec) (chain : Chain) (shape : List ℕ) (stored : Option (List ℕ)) → IsPlaced chain (shape_after codecs shape) stored → IsPlaced (with_array_codecs codecs chain) shape stored
-placed_all [] chain shape stored h = h
-placed_all (codec ∷ codecs) chain shape stored h = placed_before codec (with_array_codecs codecs chain) shape stored (placed_all codecs chain (encoded_shape codec shape) stored h)
-
-pub unwritten_all : {A : Type 0} (codecs : List ArrayCodec) (chain : Chain) (elements : Elements) (shape numbers : List ℕ) (payload : Payload) (stored : Option (List ℕ)) (r : Result A CodecError) → all_fit codecs shape ≡ true → are_places shape numbers ≡ true
-    → encodes_in_part (with_array_codecs codecs chain) ≡ encodes_in_part chain → NotEncodedInto (coded chain elements (shape_after codecs shape)) (update_of (listed (numbers_after codecs shape numbers)) payload stored) r
-    → NotEncodedInto (coded (with_array_codecs codecs chain) elements shape) (update_of (listed numbers) payload stored) r
-unwritten_all [] chain elements shape numbers payload stored r all inside partly h = h
-unwritten_all (codec ∷ codecs) chain elements shape numbers payload stored r all inside partly h =
+pub writes_all : {A : Type 0} (codecs : List ArrayCodec) (chain : Chain) (elements : Elements) (shape numbers : List ℕ) (payload : Payload) (stored : Option (List ℕ)) (source : SourceWrite) (r : Result A CodecError) → all_fit codecs shape ≡ true → are_places shape numbers ≡ true
+    → encodes_in_part (with_array_codecs codecs chain) ≡ encodes_in_part chain → WritesPart (coded chain elements (shape_after codecs shape)) (update_of (listed (numbers_after codecs shape numbers)) payload stored) source r
+    → WritesPart (coded (with_array_codecs codecs chain) elements shape) (update_of (listed numbers) payload stored) source r
+writes_all [] chain elements shape numbers payload stored source r all inside partly h = h
+writes_all (codec ∷ codecs) chain elements shape numbers payload stored source r all inside partly h =
     let two = and_parts (array_codec_fits codec shape) (all_fit codecs (encoded_shape codec shape)) all in
     let within = are_moved codec shape numbers two.0 inside in
     let each = partly_each codec codecs chain partly in
-    unwritten_after codec (with_array_codecs codecs chain) elements shape numbers payload stored r two.0 inside each.0
-    (unwritten_all codecs chain elements (encoded_shape codec shape) (moved_numbers codec shape numbers) payload stored r two.1 within each.1 h)
+    writes_after codec (with_array_codecs codecs chain) elements shape numbers payload stored source r two.0 inside each.0
+    (writes_all codecs chain elements (encoded_shape codec shape) (moved_numbers codec shape numbers) payload stored source r two.1 within each.1 h)
 
 pub unmoved_all : (codecs : List ArrayCodec) (chain : Chain) (elements : Elements) (shape numbers : List ℕ) (asked : Asked) (payload : Payload) (stored : Option (List ℕ)) (e : CodecError) → MovesNumbers codecs shape numbers (Err e)
     → NotEncodedInto {A = Unit {0}} (coded (with_array_codecs codecs chain) elements shape) (update_of asked payload stored) (Err e)

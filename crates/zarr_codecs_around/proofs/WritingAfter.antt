@@ -1,6 +1,6 @@
 -- What is stored by a chain with an array codec before it, after elements were put in the place of others.
 use Rattle.std.proofs.Common.{◌≡◌, ◌∙◌, ℕ, zero, suc, ◌<◌, List, [], ◌∷◌, map, length, get_or, set, replicate, refl, sym, ap, subst, arith, Option, Some, None, Bool, true, false, ◌&&◌, inl, inr, ◌⊎◌, option_map, Result, Ok, Err}
-use Rattle.std.specs.Prelude.{◌==◌, nat_lt, OnOk}
+use Rattle.std.specs.Prelude.{◌==◌, nat_lt, if◌then◌else◌, MatchBool, OnOk}
 use Rattle.std.specs.List.{list_all, range_with_len}
 use Rattle.std.proofs.lemmas.Bool.{and_from, and_parts, eq-eqb, ltb-true, lt-ltb}
 use Rattle.std.proofs.lemmas.List.{get_or-map, get_or-set_other, get_or-set_same, length-map, length-replicate, length-set}
@@ -34,9 +34,13 @@ use Rattle.zarr_codecs_arrays.specs.declared.error.CodecError.{CodecError}
 use Rattle.zarr_codecs_arrays.specs.declared.error.CodecError.TheVariants as error
 use Rattle.zarr_codecs_array_to_array.specs.Moving.{are_places, moved_numbers}
 use Rattle.zarr_codecs_traits.specs.Indexers.{Asked, are_inside, listed, numbers_asked, put}
-use Rattle.zarr_codecs_traits.specs.Arrays.{coded, update_of}
-use Rattle.zarr_codecs_traits.specs.PartWriting.{ChunkTight, IsEncodedInto, IsRefusedInto, NotEncodedInto, PassesLength, StopsWrite, cells_after, cells_shown, only_cell}
-use Rattle.zarr_codecs_traits.proofs.Damage.{damaged_before}
+use Rattle.zarr_codecs_traits.specs.Arrays.{Coded, Update, coded, update_of}
+use Rattle.zarr_codecs_traits.specs.PartWriting.{AfterPut, ChunkTight, IsEncodedInto, LacksRoom, NotEncodedInto, PartsRefused, PassesLength, StopsWrite, WriteRefuses, after_write, cells_after, cells_shown, only_cell}
+use Rattle.zarr_codecs_traits.specs.ShardWrites.{Appends, AppendsParts, IsStoredGapless, LeavesParts, most_for_parts, most_to_write}
+use Rattle.zarr_codecs_traits.specs.Sources.{value_length}
+use Rattle.zarr_codecs_traits.proofs.Damage.{damaged_before, placed_before}
+use Rattle.zarr_codecs_traits.proofs.WrittenWhole.{either_by, gives_by}
+use Rattle.zarr_codecs_around.specs.Parts.{SourceWrite, WritesPart}
 use Rattle.zarr_codecs_around.specs.Views.{plain_before, with_array_codecs}
 use Rattle.zarr_codecs_around.proofs.ArrayCodecs.{fit_after, larger_before, same_part, unfit_after}
 use Rattle.zarr_codecs_around.proofs.PartChains.{asked_places}
@@ -303,8 +307,8 @@ after_moved codec chain elements shape numbers stored cells fit inside =
     ∙ ap (put (moved_numbers codec shape numbers) cells) (ap (λ xs. gather fill xs places) same ∙ gathered_again fill (map only inner) places (product shape) many (array_codec_once codec shape fit))
 
 refused_into : (codec : ArrayCodec) (chain : Chain) (elements : Elements) (shape numbers : List ℕ) (payload : Payload) (stored : Option (List ℕ)) (inner outer : List Cell → Type 0) → array_codec_fits codec shape ≡ true → are_places shape numbers ≡ true
-    → ((after : List Cell) → inner (gather elements.fill after (source_places codec shape)) → outer after) → IsRefusedInto (coded chain elements (encoded_shape codec shape)) (update_of (listed (moved_numbers codec shape numbers)) payload stored) inner
-    → IsRefusedInto (coded (after_array_codec codec chain) elements shape) (update_of (listed numbers) payload stored) outer
+    → ((after : List Cell) → inner (gather elements.fill after (source_places codec shape)) → outer after) → AfterPut (coded chain elements (encoded_shape codec shape)) (update_of (listed (moved_numbers codec shape numbers)) payload stored) inner
+    → AfterPut (coded (after_array_codec codec chain) elements shape) (update_of (listed numbers) payload stored) outer
 refused_into codec chain elements shape numbers payload stored inner outer fit inside law h = record {
   cells = h.cells;
   valid = valid_again elements.type payload (length (moved_numbers codec shape numbers)) (length numbers) h.cells (moved_count codec shape numbers) h.valid;
@@ -312,6 +316,24 @@ refused_into codec chain elements shape numbers payload stored inner outer fit i
   inside = inside;
   is = law (cells_after (coded (after_array_codec codec chain) elements shape) stored numbers h.cells) (subst inner (sym (after_moved codec chain elements shape numbers stored h.cells fit inside)) h.is);
 }
+
+room_after : (codec : ArrayCodec) (chain : Chain) (elements : Elements) (shape numbers : List ℕ) (payload : Payload) (stored : Option (List ℕ)) → array_codec_fits codec shape ≡ true → are_places shape numbers ≡ true
+    → LacksRoom (coded chain elements (encoded_shape codec shape)) (update_of (listed (moved_numbers codec shape numbers)) payload stored) → LacksRoom (coded (after_array_codec codec chain) elements shape) (update_of (listed numbers) payload stored)
+room_after codec chain elements shape numbers payload stored fit inside room =
+    refused_into codec chain elements shape numbers payload stored (PassesLength chain elements (encoded_shape codec shape) stored) (PassesLength (after_array_codec codec chain) elements shape stored) fit inside (λ after why. why) room
+
+-- what a write asks to be encoded is asked where the codec moved it
+refuses_after : (codec : ArrayCodec) (chain : Chain) (elements : Elements) (shape numbers : List ℕ) (payload : Payload) (stored : Option (List ℕ)) (after : List Cell) → array_codec_fits codec shape ≡ true → are_places shape numbers ≡ true
+    → encodes_in_part (after_array_codec codec chain) ≡ encodes_in_part chain
+    → WriteRefuses (coded chain elements (encoded_shape codec shape)) (update_of (listed (moved_numbers codec shape numbers)) payload stored) (gather elements.fill after (source_places codec shape))
+    → WriteRefuses (coded (after_array_codec codec chain) elements shape) (update_of (listed numbers) payload stored) after
+refuses_after codec chain elements shape numbers payload stored after fit inside partly h =
+    let parts = PartsRefused (after_array_codec codec chain) elements shape (after_write numbers stored after) in
+    let whole = CodecRefuses (after_array_codec codec chain) elements shape after in
+    let inner = LacksRoom (coded chain elements (encoded_shape codec shape)) (update_of (listed (moved_numbers codec shape numbers)) payload stored) in
+    let outer = LacksRoom (coded (after_array_codec codec chain) elements shape) (update_of (listed numbers) payload stored) in
+    subst (λ (b : Bool). MatchBool b (parts ⊎ (outer × whole)) whole) (sym partly)
+    (either_by (encodes_in_part chain) parts parts inner outer whole whole (λ is. is) (room_after codec chain elements shape numbers payload stored fit inside) (λ is. is) h)
 
 -- what is stored is not decoded, where what the codec moved isn't
 undecoded_after : (codec : ArrayCodec) (chain : Chain) (elements : Elements) (shape : List ℕ) (stored : Option (List ℕ)) → chunk_decoded chain elements (encoded_shape codec shape) stored ≡ None → chunk_decoded (after_array_codec codec chain) elements shape stored ≡ None
@@ -323,7 +345,7 @@ stopped_after : (codec : ArrayCodec) (chain : Chain) (elements : Elements) (shap
 stopped_after codec chain elements shape numbers payload stored fit inside partly (inl damage) = inl (damaged_before codec chain elements shape stored numbers partly damage)
 stopped_after codec chain elements shape numbers payload stored fit inside partly (inr full) = inr (
   undecoded_after codec chain elements shape stored full.0,
-  λ lossless. refused_into codec chain elements shape numbers payload stored (PassesLength chain elements (encoded_shape codec shape) stored) (PassesLength (after_array_codec codec chain) elements shape stored) fit inside (λ after why. why) (full.1 lossless),
+  room_after codec chain elements shape numbers payload stored fit inside full.1,
 )
 
 pub unwritten_after : {A : Type 0} (codec : ArrayCodec) (chain : Chain) (elements : Elements) (shape numbers : List ℕ) (payload : Payload) (stored : Option (List ℕ)) (r : Result A CodecError) → array_codec_fits codec shape ≡ true → are_places shape numbers ≡ true
@@ -335,7 +357,8 @@ unwritten_after codec chain elements shape numbers payload stored (Err error.Siz
 unwritten_after codec chain elements shape numbers payload stored (Err error.Size) fit inside partly (inr h) =
     inr (refused_into codec chain elements shape numbers payload stored _ (λ after. PassesIndex (after_array_codec codec chain) elements shape after ⊎ PassesLength (after_array_codec codec chain) elements shape stored after) fit inside (λ after why. why) h)
 unwritten_after codec chain elements shape numbers payload stored (Err error.Codec) fit inside partly h =
-    refused_into codec chain elements shape numbers payload stored (CodecRefuses chain elements (encoded_shape codec shape)) (CodecRefuses (after_array_codec codec chain) elements shape) fit inside (λ after why. why) h
+    refused_into codec chain elements shape numbers payload stored (WriteRefuses (coded chain elements (encoded_shape codec shape)) (update_of (listed (moved_numbers codec shape numbers)) payload stored))
+    (WriteRefuses (coded (after_array_codec codec chain) elements shape) (update_of (listed numbers) payload stored)) fit inside (λ after why. refuses_after codec chain elements shape numbers payload stored after fit inside partly why) h
 unwritten_after codec chain elements shape numbers payload stored (Err error.Damage) fit inside partly h =
     (fit_after codec chain elements.type shape fit h.0, stopped_after codec chain elements shape numbers payload stored fit inside partly h.1)
 unwritten_after codec chain elements shape numbers payload stored (Err error.Source) fit inside partly h = tt
@@ -351,13 +374,27 @@ written_by_numbers chain exact elements shape asked payload cells old new inside
     record { valid = h.valid; fit = h.fit; inside = inside; opened = h.opened; none_lost = h.none_lost; stands = h.stands; tight = h.tight; absent = h.absent; encodes = h.encodes; shows = h.shows }
 
 listed_refused : (chain : Chain) (elements : Elements) (shape : List ℕ) (asked : Asked) (payload : Payload) (stored : Option (List ℕ)) (refuses : List Cell → Type 0) → are_inside shape asked ≡ true
-    → IsRefusedInto (coded chain elements shape) (update_of (listed (numbers_asked shape asked)) payload stored) refuses → IsRefusedInto (coded chain elements shape) (update_of asked payload stored) refuses
+    → AfterPut (coded chain elements shape) (update_of (listed (numbers_asked shape asked)) payload stored) refuses → AfterPut (coded chain elements shape) (update_of asked payload stored) refuses
 listed_refused chain elements shape asked payload stored refuses inside h = record { cells = h.cells; valid = h.valid; fit = h.fit; inside = inside; is = h.is }
 
 stopped_by_numbers : (chain : Chain) (elements : Elements) (shape : List ℕ) (asked : Asked) (payload : Payload) (stored : Option (List ℕ)) → are_inside shape asked ≡ true → StopsWrite (coded chain elements shape) (update_of (listed (numbers_asked shape asked)) payload stored)
     → StopsWrite (coded chain elements shape) (update_of asked payload stored)
 stopped_by_numbers chain elements shape asked payload stored inside (inl damage) = inl damage
-stopped_by_numbers chain elements shape asked payload stored inside (inr full) = inr (full.0, λ lossless. listed_refused chain elements shape asked payload stored (PassesLength chain elements shape stored) inside (full.1 lossless))
+stopped_by_numbers chain elements shape asked payload stored inside (inr full) = inr (full.0, listed_refused chain elements shape asked payload stored (PassesLength chain elements shape stored) inside full.1)
+
+-- what a write at places asks to be encoded is what one at their numbers asks
+refuses_by_numbers : (chain : Chain) (elements : Elements) (shape : List ℕ) (asked : Asked) (payload : Payload) (stored : Option (List ℕ)) (after : List Cell) → are_inside shape asked ≡ true
+    → WriteRefuses (coded chain elements shape) (update_of (listed (numbers_asked shape asked)) payload stored) after → WriteRefuses (coded chain elements shape) (update_of asked payload stored) after
+refuses_by_numbers chain elements shape asked payload stored after inside h =
+    let parts = PartsRefused chain elements shape (after_write (numbers_asked shape asked) stored after) in
+    let whole = CodecRefuses chain elements shape after in
+    either_by (encodes_in_part chain) parts parts (LacksRoom (coded chain elements shape) (update_of (listed (numbers_asked shape asked)) payload stored)) (LacksRoom (coded chain elements shape) (update_of asked payload stored)) whole whole (λ is. is)
+    (listed_refused chain elements shape asked payload stored (PassesLength chain elements shape stored) inside) (λ is. is) h
+
+-- a fact of the cells that an array has after a put follows from another one
+pub put_so : (array : Coded) (update : Update) (first second : List Cell → Type 0) → ((after : List Cell) → first after → second after) → AfterPut array update first → AfterPut array update second
+put_so array update first second law h =
+    record { cells = h.cells; valid = h.valid; fit = h.fit; inside = h.inside; is = law (cells_after array update.stored (numbers_asked array.shape update.asked) h.cells) h.is }
 
 pub unwritten_by_numbers : {A : Type 0} (chain : Chain) (elements : Elements) (shape : List ℕ) (asked : Asked) (payload : Payload) (stored : Option (List ℕ)) (r : Result A CodecError) → are_inside shape asked ≡ true
     → NotEncodedInto (coded chain elements shape) (update_of (listed (numbers_asked shape asked)) payload stored) r → NotEncodedInto (coded chain elements shape) (update_of asked payload stored) r
@@ -366,7 +403,11 @@ unwritten_by_numbers chain elements shape asked payload stored (Err error.Fit) i
 unwritten_by_numbers chain elements shape asked payload stored (Err error.IncompatibleIndexer) inside h = absurd (let e = sym (asked_places shape asked inside) ∙ h in cc)
 unwritten_by_numbers chain elements shape asked payload stored (Err error.Size) inside (inl large) = inl large
 unwritten_by_numbers chain elements shape asked payload stored (Err error.Size) inside (inr h) = inr (listed_refused chain elements shape asked payload stored _ inside h)
-unwritten_by_numbers chain elements shape asked payload stored (Err error.Codec) inside h = listed_refused chain elements shape asked payload stored (CodecRefuses chain elements shape) inside h
+unwritten_by_numbers chain elements shape asked payload stored (Err error.Codec) inside h =
+    let listed_update = update_of (listed (numbers_asked shape asked)) payload stored in
+    listed_refused chain elements shape asked payload stored (WriteRefuses (coded chain elements shape) (update_of asked payload stored)) inside
+    (put_so (coded chain elements shape) listed_update (WriteRefuses (coded chain elements shape) listed_update) (WriteRefuses (coded chain elements shape) (update_of asked payload stored))
+    (λ after why. refuses_by_numbers chain elements shape asked payload stored after inside why) h)
 unwritten_by_numbers chain elements shape asked payload stored (Err error.Damage) inside h = (h.0, stopped_by_numbers chain elements shape asked payload stored inside h.1)
 unwritten_by_numbers chain elements shape asked payload stored (Err error.Source) inside h = tt
 unwritten_by_numbers chain elements shape asked payload stored (Err error.Memory) inside h = tt
@@ -382,6 +423,81 @@ on_written (Err e) inner outer law h = tt
 pub any_answer : {A : Type 0} (r : Result A CodecError) (fact : Type 0) → fact → OnOk r fact
 any_answer (Ok value) fact h = h
 any_answer (Err e) fact h = tt
+
+-- ---- what writes leave and take
+
+stored_gapless_after : (codec : ArrayCodec) (chain : Chain) (shape : List ℕ) (stored : Option (List ℕ)) → IsStoredGapless chain (encoded_shape codec shape) stored → IsStoredGapless (after_array_codec codec chain) shape stored
+stored_gapless_after codec chain shape None h = tt
+stored_gapless_after codec chain shape (Some value) h = h
+
+leaves_after : (codec : ArrayCodec) (chain : Chain) (elements : Elements) (shape numbers : List ℕ) (payload : Payload) (stored new : Option (List ℕ)) → array_codec_fits codec shape ≡ true → are_places shape numbers ≡ true
+    → encodes_in_part (after_array_codec codec chain) ≡ encodes_in_part chain → LeavesParts (coded chain elements (encoded_shape codec shape)) (update_of (listed (moved_numbers codec shape numbers)) payload stored) new
+    → LeavesParts (coded (after_array_codec codec chain) elements shape) (update_of (listed numbers) payload stored) new
+leaves_after codec chain elements shape numbers payload stored new fit inside partly h =
+    let inner = coded chain elements (encoded_shape codec shape) in
+    let outer = coded (after_array_codec codec chain) elements shape in
+    let moved = update_of (listed (moved_numbers codec shape numbers)) payload stored in
+    let update = update_of (listed numbers) payload stored in
+    let anew = IsStoredGapless (after_array_codec codec chain) shape new in
+    record {
+      placed = placed_before codec chain shape stored h.placed;
+      parts = subst (λ (b : Bool). MatchBool b (AppendsParts outer update new ⊎ (LacksRoom outer update × anew)) anew) (sym partly)
+          (either_by (encodes_in_part chain) (AppendsParts inner moved new) (AppendsParts outer update new) (LacksRoom inner moved) (LacksRoom outer update) (IsStoredGapless chain (encoded_shape codec shape) new) anew
+          (refused_into codec chain elements shape numbers payload stored (λ after. Appends chain elements (encoded_shape codec shape) (after_write (moved_numbers codec shape numbers) stored after) new)
+          (λ after. Appends (after_array_codec codec chain) elements shape (after_write numbers stored after) new) fit inside (λ after is. is)) (room_after codec chain elements shape numbers payload stored fit inside)
+          (stored_gapless_after codec chain shape new) h.parts);
+    }
+
+-- as many bytes are taken where the codec moves the places
+takes_after : (codec : ArrayCodec) (chain : Chain) (elements : Elements) (shape numbers : List ℕ) (payload : Payload) (stored : Option (List ℕ)) → encodes_in_part (after_array_codec codec chain) ≡ encodes_in_part chain
+    → most_to_write (coded chain elements (encoded_shape codec shape)) (update_of (listed (moved_numbers codec shape numbers)) payload stored) ≡ most_to_write (coded (after_array_codec codec chain) elements shape) (update_of (listed numbers) payload stored)
+takes_after codec chain elements shape numbers payload stored partly =
+    let parts = most_for_parts (after_array_codec codec chain) elements.type shape stored numbers in
+    ap (λ (b : Bool). if b then parts else value_length stored) (sym partly)
+
+pub writes_after : {A : Type 0} (codec : ArrayCodec) (chain : Chain) (elements : Elements) (shape numbers : List ℕ) (payload : Payload) (stored : Option (List ℕ)) (source : SourceWrite) (r : Result A CodecError) → array_codec_fits codec shape ≡ true → are_places shape numbers ≡ true
+    → encodes_in_part (after_array_codec codec chain) ≡ encodes_in_part chain → WritesPart (coded chain elements (encoded_shape codec shape)) (update_of (listed (moved_numbers codec shape numbers)) payload stored) source r
+    → WritesPart (coded (after_array_codec codec chain) elements shape) (update_of (listed numbers) payload stored) source r
+writes_after codec chain elements shape numbers payload stored source r fit inside partly h =
+    let inner = coded chain elements (encoded_shape codec shape) in
+    let outer = coded (after_array_codec codec chain) elements shape in
+    let moved = update_of (listed (moved_numbers codec shape numbers)) payload stored in
+    let update = update_of (listed numbers) payload stored in
+    record {
+      parts = on_written r (LeavesParts inner moved source.new) (LeavesParts outer update source.new) (leaves_after codec chain elements shape numbers payload stored source.new fit inside partly) h.parts;
+      cause = unwritten_after codec chain elements shape numbers payload stored r fit inside partly h.cause;
+      given = λ ranges. gives_by inner outer moved update source.before source.after (takes_after codec chain elements shape numbers payload stored partly) refl (room_after codec chain elements shape numbers payload stored fit inside) (h.given ranges);
+    }
+
+leaves_by_numbers : (chain : Chain) (elements : Elements) (shape : List ℕ) (asked : Asked) (payload : Payload) (stored new : Option (List ℕ)) → are_inside shape asked ≡ true
+    → LeavesParts (coded chain elements shape) (update_of (listed (numbers_asked shape asked)) payload stored) new → LeavesParts (coded chain elements shape) (update_of asked payload stored) new
+leaves_by_numbers chain elements shape asked payload stored new inside h =
+    let array = coded chain elements shape in
+    let numbered = update_of (listed (numbers_asked shape asked)) payload stored in
+    let update = update_of asked payload stored in
+    let anew = IsStoredGapless chain shape new in
+    record {
+      placed = h.placed;
+      parts = either_by (encodes_in_part chain) (AppendsParts array numbered new) (AppendsParts array update new) (LacksRoom array numbered) (LacksRoom array update) anew anew
+          (listed_refused chain elements shape asked payload stored (λ after. Appends chain elements shape (after_write (numbers_asked shape asked) stored after) new) inside)
+          (listed_refused chain elements shape asked payload stored (PassesLength chain elements shape stored) inside) (λ is. is) h.parts;
+    }
+
+pub writes_by_numbers : {A : Type 0} (chain : Chain) (elements : Elements) (shape : List ℕ) (asked : Asked) (payload : Payload) (stored : Option (List ℕ)) (source : SourceWrite) (r : Result A CodecError) → are_inside shape asked ≡ true
+    → WritesPart (coded chain elements shape) (update_of (listed (numbers_asked shape asked)) payload stored) source r → WritesPart (coded chain elements shape) (update_of asked payload stored) source r
+writes_by_numbers chain elements shape asked payload stored source r inside h =
+    let array = coded chain elements shape in
+    let numbered = update_of (listed (numbers_asked shape asked)) payload stored in
+    let update = update_of asked payload stored in
+    record {
+      parts = on_written r (LeavesParts array numbered source.new) (LeavesParts array update source.new) (leaves_by_numbers chain elements shape asked payload stored source.new inside) h.parts;
+      cause = unwritten_by_numbers chain elements shape asked payload stored r inside h.cause;
+      given = λ ranges. gives_by array array numbered update source.before source.after refl refl (listed_refused chain elements shape asked payload stored (PassesLength chain elements shape stored) inside) (h.given ranges);
+    }
+
+-- a write that is refused before anything is read
+pub unread_writes : {A : Type 0} (array : Coded) (update : Update) (source : SourceWrite) (e : CodecError) → NotEncodedInto {A = A} array update (Err e) → source.after ≡ source.before → WritesPart {A = A} array update source (Err e)
+unread_writes array update source e cause same = record { parts = tt; cause = cause; given = λ ranges. inl (omega (arith, same)) }
 
 -- ---- what is encoded in part
 

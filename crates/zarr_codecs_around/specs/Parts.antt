@@ -1,12 +1,15 @@
 -- Parts of an array that are read and written by a codec after array codecs.
-use Rattle.std.specs.Prelude.{◌≡◌, ℕ, List, Option}
+use Rattle.std.specs.Prelude.{◌≡◌, ℕ, Bool, List, Option, Result, IsTrue, OnOk}
 use Rattle.zarr_grids_boxes.specs.Subsets.{region_of}
 use Rattle.zarr_codecs_meaning.specs.Chains.{Chain}
 use Rattle.zarr_codecs_meaning.specs.Partial.{encodes_in_part}
 use Rattle.zarr_codecs_arrays.specs.Views.{elements_of, payload_of}
 use Rattle.zarr_codecs_arrays.specs.declared.array_bytes.ArrayBytes.{ArrayBytes}
+use Rattle.zarr_codecs_arrays.specs.declared.error.CodecError.{CodecError}
 use Rattle.zarr_codecs_traits.specs.Arrays.{Coded, Update, coded, coded_part, update_of}
 use Rattle.zarr_codecs_traits.specs.Indexers.{in_box, listed}
+use Rattle.zarr_codecs_traits.specs.PartWriting.{NotEncodedInto}
+use Rattle.zarr_codecs_traits.specs.ShardWrites.{GivesWriting, LeavesParts}
 use Rattle.zarr_codecs_traits.specs.declared.array_part.ArrayPart.{ArrayPart}
 use Rattle.zarr_codecs_bytes.specs.declared.part.ListedPart.{ListedPart}
 use Rattle.zarr_codecs_around.specs.Views.{chain_after}
@@ -36,3 +39,20 @@ update_listed part bytes stored = update_of (listed part.numbers.now) (payload_o
 -- the array codecs don't keep the codec after them from being encoded in part: no `reshape` stands before a shard
 abbrev pub IsAsRest : {A : Type 0} → (A → Chain) → AfterArrayCodecs A → Type 0
 IsAsRest meaning codecs = encodes_in_part (chain_after meaning codecs) ≡ encodes_in_part (meaning codecs.rest.now)
+
+-- a source at a write: what is stored afterwards, whether it writes ranges without the value, and how many bytes it has given before and after
+pub record SourceWrite : Type 0 where
+  pub new : Option (List ℕ)
+  pub ranges : Bool
+  pub before : ℕ
+  pub after : ℕ
+
+-- the same, put together
+abbrev pub source_write : Option (List ℕ) → Bool → ℕ → ℕ → SourceWrite
+source_write new ranges before after = record { new = new; ranges = ranges; before = before; after = after }
+
+-- what a write in part leaves of what was stored, or why it isn't done, and how many bytes it takes
+pub record WritesPart {A : Type 0} (array : Coded) (update : Update) (source : SourceWrite) (result : Result A CodecError) : Type 0 where
+  pub parts : OnOk result (LeavesParts array update source.new)
+  pub cause : NotEncodedInto array update result
+  pub given : IsTrue source.ranges → GivesWriting array update source.before source.after

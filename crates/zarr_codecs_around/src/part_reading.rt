@@ -2,7 +2,6 @@
 ghost use Rattle.std.specs.Prelude.{◌≡◌, ◌≤◌, ◌+◌, ◌^◌, ◌<◌, true, IsTrue};
 ghost use Rattle.zarr_grids_boxes.specs.Boxes.{product};
 ghost use Rattle.zarr_grids_boxes.specs.Subsets.{region_of};
-ghost use Rattle.zarr_codecs_meaning.specs.Fits.{is_plain};
 ghost use Rattle.zarr_codecs_arrays.specs.Views.{elements_of};
 ghost use Rattle.zarr_codecs_traits.specs.Indexers.{are_inside, asked_of, in_box};
 ghost use Rattle.zarr_codecs_traits.specs.Arrays.{coded, coded_part};
@@ -37,8 +36,7 @@ pub fn decode_part_after<A: ArrayToBytesCodecTraits, D: BytesPartialDecoderTrait
         (asked_of part.entry.indexer) result }
     ensures refused { D.refused_calls source.new ≡
         refused_after (D.refused_calls source.old) result }
-    ensures given { is_plain (chain_after A.meaning chain.entry) ≡ true →
-        IsTrue (D.is_honest source.old) → D.given_bytes source.new
+    ensures given { IsTrue (D.is_honest source.old) → D.given_bytes source.new
         ≤ D.given_bytes source.old + most_read (chain_after A.meaning chain.entry)
         (elements_of part.entry.elements.now).type part.entry.shape.now (D.contents source.old)
         (asked_of part.entry.indexer) }
@@ -81,8 +79,7 @@ fn decode_box_after<A: ArrayToBytesCodecTraits, D: BytesPartialDecoderTraits>(
         result }
     ensures refused { D.refused_calls source.new ≡
         refused_after (D.refused_calls source.old) result }
-    ensures given { is_plain (chain_after A.meaning chain.entry) ≡ true →
-        IsTrue (D.is_honest source.old) → D.given_bytes source.new
+    ensures given { IsTrue (D.is_honest source.old) → D.given_bytes source.new
         ≤ D.given_bytes source.old + most_read (chain_after A.meaning chain.entry)
         (elements_of part.entry.elements.now).type part.entry.shape.now (D.contents source.old)
         (in_box (region_of part.entry.subset.now)) }
@@ -127,8 +124,7 @@ fn decode_inner_box<A: ArrayToBytesCodecTraits, D: BytesPartialDecoderTraits>(
         result }
     ensures refused { D.refused_calls source.new ≡
         refused_after (D.refused_calls source.old) result }
-    ensures given { is_plain (chain_after A.meaning chain.entry) ≡ true →
-        IsTrue (D.is_honest source.old) → D.given_bytes source.new
+    ensures given { IsTrue (D.is_honest source.old) → D.given_bytes source.new
         ≤ D.given_bytes source.old + most_read (chain_after A.meaning chain.entry)
         (elements_of part.entry.elements.now).type part.entry.shape.now (D.contents source.old)
         (in_box (region_of part.entry.subset.now)) }
@@ -159,8 +155,7 @@ fn decode_asked_after<A: ArrayToBytesCodecTraits, D: BytesPartialDecoderTraits>(
         (asked_of part.entry.indexer) result }
     ensures refused { D.refused_calls source.new ≡
         refused_after (D.refused_calls source.old) result }
-    ensures given { is_plain (chain_after A.meaning chain.entry) ≡ true →
-        IsTrue (D.is_honest source.old) → D.given_bytes source.new
+    ensures given { IsTrue (D.is_honest source.old) → D.given_bytes source.new
         ≤ D.given_bytes source.old + most_read (chain_after A.meaning chain.entry)
         (elements_of part.entry.elements.now).type part.entry.shape.now (D.contents source.old)
         (asked_of part.entry.indexer) }
@@ -203,8 +198,8 @@ fn decode_numbers<A: ArrayToBytesCodecTraits, D: BytesPartialDecoderTraits>(
         (D.contents source.old) part.entry result }
     ensures refused { D.refused_calls source.new ≡
         refused_after (D.refused_calls source.old) result }
-    ensures given { is_plain (A.meaning codec.now) ≡ true →
-        IsTrue (D.is_honest source.old) → D.given_bytes source.new ≤ D.given_bytes source.old
+    ensures given { IsTrue (D.is_honest source.old) → D.given_bytes source.new
+        ≤ D.given_bytes source.old
         + most_of_listed (A.meaning codec.now) (D.contents source.old) part.entry }
     ensures follows { D.follows source.old source.new }
 {

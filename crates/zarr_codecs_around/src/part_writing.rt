@@ -5,9 +5,9 @@ ghost use Rattle.zarr_codecs_meaning.specs.Fits.{fits};
 ghost use Rattle.zarr_codecs_arrays.specs.Views.{elements_of};
 ghost use Rattle.zarr_codecs_traits.specs.Indexers.{are_inside, asked_of};
 ghost use Rattle.zarr_codecs_traits.specs.Arrays.{update_part};
-ghost use Rattle.zarr_codecs_traits.specs.PartWriting.{EncodesInto, IsPlaced, NotEncodedInto, WritesOnce};
+ghost use Rattle.zarr_codecs_traits.specs.PartWriting.{EncodesInto, WritesOnce};
 ghost use Rattle.zarr_codecs_traits.specs.Sources.{refused_after};
-ghost use Rattle.zarr_codecs_around.specs.Parts.{IsAsRest, boxed_in, coded_listed, part_in, update_boxed, update_listed};
+ghost use Rattle.zarr_codecs_around.specs.Parts.{IsAsRest, WritesPart, boxed_in, coded_listed, part_in, source_write, update_boxed, update_listed};
 ghost use Rattle.zarr_codecs_around.specs.Views.{chain_after};
 
 use crate::array_codecs::AfterArrayCodecs;
@@ -26,6 +26,7 @@ use zarr_grids_boxes::walk::count_places;
 /// holds, each where the array codecs move it. Errors as those of
 /// `ArrayToBytesCodecTraits::partial_encode`; their causes are told where the array codecs leave a
 /// codec that can be encoded in part so, as all do but a `reshape` before a shard.
+#[tactic(auto, using(crate::proofs::WritingAfter::unread_writes))]
 pub fn encode_part_after<A: ArrayToBytesCodecTraits, E: BytesPartialEncoderTraits>(
     chain: AfterArrayCodecs<'_, A>,
     alloc: Global,
@@ -36,14 +37,13 @@ pub fn encode_part_after<A: ArrayToBytesCodecTraits, E: BytesPartialEncoderTrait
     ensures ok { IsTrue (E.is_honest source.old) → OnOk result
         (EncodesInto (part_in A.meaning chain.entry part.entry) (A.is_function chain.entry.rest.now)
         (update_part part.entry bytes (E.contents source.old)) (E.contents source.new)) }
-    ensures placed { IsTrue (E.is_honest source.old) → OnOk result
-        (IsPlaced (chain_after A.meaning chain.entry) part.entry.shape.now
-        (E.contents source.old)) }
     ensures err { IsTrue (E.is_honest source.old) →
         OnErr result (E.contents source.new ≡ E.contents source.old) }
-    ensures cause { IsTrue (E.is_honest source.old) → IsAsRest A.meaning chain.entry →
-        NotEncodedInto (part_in A.meaning chain.entry part.entry)
-        (update_part part.entry bytes (E.contents source.old)) result }
+    ensures writes { IsTrue (E.is_honest source.old) → IsAsRest A.meaning chain.entry →
+        WritesPart (part_in A.meaning chain.entry part.entry)
+        (update_part part.entry bytes (E.contents source.old))
+        (source_write (E.contents source.new) (E.writes_ranges source.old)
+        (E.given_bytes source.old) (E.given_bytes source.new)) result }
     ensures refused { E.refused_calls source.new ≡
         refused_after (E.refused_calls source.old) result }
     ensures once { WritesOnce (E.accepted_writes source.old) (E.accepted_writes source.new) result }
@@ -95,14 +95,13 @@ fn encode_box_after<A: ArrayToBytesCodecTraits, E: BytesPartialEncoderTraits>(
         (EncodesInto (boxed_in A.meaning chain.entry part.entry)
         (A.is_function chain.entry.rest.now) (update_boxed part.entry bytes (E.contents source.old))
         (E.contents source.new)) }
-    ensures placed { IsTrue (E.is_honest source.old) → OnOk result
-        (IsPlaced (chain_after A.meaning chain.entry) part.entry.shape.now
-        (E.contents source.old)) }
     ensures err { IsTrue (E.is_honest source.old) →
         OnErr result (E.contents source.new ≡ E.contents source.old) }
-    ensures cause { IsTrue (E.is_honest source.old) → IsAsRest A.meaning chain.entry →
-        NotEncodedInto (boxed_in A.meaning chain.entry part.entry)
-        (update_boxed part.entry bytes (E.contents source.old)) result }
+    ensures writes { IsTrue (E.is_honest source.old) → IsAsRest A.meaning chain.entry →
+        WritesPart (boxed_in A.meaning chain.entry part.entry)
+        (update_boxed part.entry bytes (E.contents source.old))
+        (source_write (E.contents source.new) (E.writes_ranges source.old)
+        (E.given_bytes source.old) (E.given_bytes source.new)) result }
     ensures refused { E.refused_calls source.new ≡
         refused_after (E.refused_calls source.old) result }
     ensures once { WritesOnce (E.accepted_writes source.old) (E.accepted_writes source.new) result }
@@ -147,14 +146,13 @@ fn encode_inner_box<A: ArrayToBytesCodecTraits, E: BytesPartialEncoderTraits>(
         (EncodesInto (boxed_in A.meaning chain.entry part.entry)
         (A.is_function chain.entry.rest.now) (update_boxed part.entry bytes (E.contents source.old))
         (E.contents source.new)) }
-    ensures placed { IsTrue (E.is_honest source.old) → OnOk result
-        (IsPlaced (chain_after A.meaning chain.entry) part.entry.shape.now
-        (E.contents source.old)) }
     ensures err { IsTrue (E.is_honest source.old) →
         OnErr result (E.contents source.new ≡ E.contents source.old) }
-    ensures cause { IsTrue (E.is_honest source.old) → IsAsRest A.meaning chain.entry →
-        NotEncodedInto (boxed_in A.meaning chain.entry part.entry)
-        (update_boxed part.entry bytes (E.contents source.old)) result }
+    ensures writes { IsTrue (E.is_honest source.old) → IsAsRest A.meaning chain.entry →
+        WritesPart (boxed_in A.meaning chain.entry part.entry)
+        (update_boxed part.entry bytes (E.contents source.old))
+        (source_write (E.contents source.new) (E.writes_ranges source.old)
+        (E.given_bytes source.old) (E.given_bytes source.new)) result }
     ensures refused { E.refused_calls source.new ≡
         refused_after (E.refused_calls source.old) result }
     ensures once { WritesOnce (E.accepted_writes source.old) (E.accepted_writes source.new) result }
@@ -172,6 +170,7 @@ fn encode_inner_box<A: ArrayToBytesCodecTraits, E: BytesPartialEncoderTraits>(
 
 /// Puts elements in the place of those at the places that are asked for, in the value that a source
 /// holds. The array codecs move the numbers of these places.
+#[tactic(auto, using(crate::proofs::WritingAfter::unread_writes))]
 fn encode_asked_after<A: ArrayToBytesCodecTraits, E: BytesPartialEncoderTraits>(
     chain: AfterArrayCodecs<'_, A>,
     alloc: Global,
@@ -184,14 +183,13 @@ fn encode_asked_after<A: ArrayToBytesCodecTraits, E: BytesPartialEncoderTraits>(
     ensures ok { IsTrue (E.is_honest source.old) → OnOk result
         (EncodesInto (part_in A.meaning chain.entry part.entry) (A.is_function chain.entry.rest.now)
         (update_part part.entry bytes (E.contents source.old)) (E.contents source.new)) }
-    ensures placed { IsTrue (E.is_honest source.old) → OnOk result
-        (IsPlaced (chain_after A.meaning chain.entry) part.entry.shape.now
-        (E.contents source.old)) }
     ensures err { IsTrue (E.is_honest source.old) →
         OnErr result (E.contents source.new ≡ E.contents source.old) }
-    ensures cause { IsTrue (E.is_honest source.old) → IsAsRest A.meaning chain.entry →
-        NotEncodedInto (part_in A.meaning chain.entry part.entry)
-        (update_part part.entry bytes (E.contents source.old)) result }
+    ensures writes { IsTrue (E.is_honest source.old) → IsAsRest A.meaning chain.entry →
+        WritesPart (part_in A.meaning chain.entry part.entry)
+        (update_part part.entry bytes (E.contents source.old))
+        (source_write (E.contents source.new) (E.writes_ranges source.old)
+        (E.given_bytes source.old) (E.given_bytes source.new)) result }
     ensures refused { E.refused_calls source.new ≡
         refused_after (E.refused_calls source.old) result }
     ensures once { WritesOnce (E.accepted_writes source.old) (E.accepted_writes source.new) result }
@@ -235,13 +233,13 @@ fn encode_numbers<A: ArrayToBytesCodecTraits, E: BytesPartialEncoderTraits>(
     ensures ok { IsTrue (E.is_honest source.old) → OnOk result
         (EncodesInto (coded_listed (A.meaning codec.now) part.entry) (A.is_function codec.now)
         (update_listed part.entry bytes (E.contents source.old)) (E.contents source.new)) }
-    ensures placed { IsTrue (E.is_honest source.old) → OnOk result
-        (IsPlaced (A.meaning codec.now) part.entry.shape.now (E.contents source.old)) }
     ensures err { IsTrue (E.is_honest source.old) →
         OnErr result (E.contents source.new ≡ E.contents source.old) }
-    ensures cause { IsTrue (E.is_honest source.old) → NotEncodedInto
-        (coded_listed (A.meaning codec.now) part.entry) (update_listed part.entry bytes
-        (E.contents source.old)) result }
+    ensures writes { IsTrue (E.is_honest source.old) → WritesPart
+        (coded_listed (A.meaning codec.now) part.entry)
+        (update_listed part.entry bytes (E.contents source.old))
+        (source_write (E.contents source.new) (E.writes_ranges source.old)
+        (E.given_bytes source.old) (E.given_bytes source.new)) result }
     ensures refused { E.refused_calls source.new ≡
         refused_after (E.refused_calls source.old) result }
     ensures once { WritesOnce (E.accepted_writes source.old) (E.accepted_writes source.new) result }

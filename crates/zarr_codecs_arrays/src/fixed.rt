@@ -1,5 +1,5 @@
 //! Elements of one size, one after another in bytes.
-ghost use Rattle.std.specs.Prelude.{◌≡◌, List, ◌||◌, nat_lt, nat_le, ◌-◌, ◌++◌, ◌*◌, ◌/◌, ◌%◌, ◌+◌, ◌<◌, ◌≤◌, Some, None, false, length, take, drop, OnOk, IfOk, MatchOption, option_map, unwrap_or};
+ghost use Rattle.std.specs.Prelude.{◌≡◌, ℕ, List, ◌∷◌, ◌||◌, nat_lt, nat_le, ◌-◌, ◌++◌, ◌*◌, ◌/◌, ◌%◌, ◌+◌, ◌<◌, ◌≤◌, Some, None, false, length, take, drop, OnOk, IfOk, MatchOption, option_map, unwrap_or};
 ghost use Rattle.std.specs.List.{repeat, list_all};
 ghost use Rattle.zarr_codecs_meaning.specs.Payloads.{fixed_in, fixed_cells, cells_in, fixed};
 ghost use Rattle.zarr_codecs_meaning.specs.Types as types;
@@ -166,7 +166,22 @@ fn are_whole_values(data_type: &DataType, width: usize, bytes: &[u8]) -> bool
 pub(crate) fn are_below(bytes: &[u8], bound: u8) -> bool
     ensures { result ≡ list_all (λ b. nat_lt b bound) bytes.now }
 {
-    bytes.iter().all(|byte| *byte < bound)
+    match bytes.split_first() {
+        Some((first, others)) => highest(*first, others) < bound,
+        None => true,
+    }
+}
+
+/// The highest of a byte and others. All are looked at, so that a processor can take many at once.
+fn highest(first: u8, bytes: &[u8]) -> u8
+    ensures { (bound : ℕ) → list_all (λ b. nat_lt b bound) (first ∷ bytes.now)
+        ≡ nat_lt result bound }
+{
+    let mut highest = first;
+    for byte in bytes {
+        highest = highest.max(*byte);
+    }
+    highest
 }
 
 /// Whether each byte, as a signed number, is from a bound below zero to less than the bound.

@@ -30,4 +30,5 @@ bytes_encodes order elements shape given made cells fill fit valid is =
       encodes = λ _. whole;
       stands = λ _. whole;
       sized = encoded_size (bytes order) elements shape made cells tt fit are whole;
+      gapless = tt;
     }

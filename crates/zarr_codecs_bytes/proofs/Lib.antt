@@ -14,3 +14,4 @@ mod PartBytes
 pub mod ElementWrites
 pub mod ElementsPut
 pub mod AskedRanges
+mod Unstored

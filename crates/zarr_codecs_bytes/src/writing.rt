@@ -1,5 +1,5 @@
 //! Elements that are written over others, in the value that a source holds.
-ghost use Rattle.std.specs.Prelude.{◌≡◌, ◌*◌, ◌<◌, ◌^◌, ℕ, List, Some, false, true, length, option_map, IfOk, IsTrue, OnErr, OnOk};
+ghost use Rattle.std.specs.Prelude.{◌≡◌, ◌*◌, ◌<◌, ◌≤◌, ◌^◌, ℕ, List, Some, false, true, length, option_map, IfOk, IsTrue, OnErr, OnOk};
 ghost use Rattle.zarr_grids_boxes.specs.Boxes.{product};
 ghost use Rattle.zarr_codecs_meaning.specs.Types.{Cell, bytes_in, components, is_fixed};
 ghost use Rattle.zarr_codecs_arrays.specs.Views.{elements_of, payload_of};
@@ -44,6 +44,8 @@ pub(crate) fn write_asked<E: BytesPartialEncoderTraits>(
     ensures refused { E.refused_calls source.new ≡
         refused_after (E.refused_calls source.old) result }
     ensures once { WritesOnce (E.accepted_writes source.old) (E.accepted_writes source.new) result }
+    ensures given { IsTrue (E.is_honest source.old) → IsTrue (E.writes_ranges source.old) →
+        E.given_bytes source.new ≤ E.given_bytes source.old }
     ensures rewrites { E.rewrites source.old source.new }
 {
     if let Err(error) = test_given(&codec, alloc, &bytes, part) {
@@ -81,6 +83,8 @@ fn write_over<E: BytesPartialEncoderTraits>(
     ensures refused { E.refused_calls source.new ≡
         refused_after (E.refused_calls source.old) result }
     ensures once { WritesOnce (E.accepted_writes source.old) (E.accepted_writes source.new) result }
+    ensures given { IsTrue (E.is_honest source.old) → IsTrue (E.writes_ranges source.old) →
+        E.given_bytes source.new ≤ E.given_bytes source.old }
     ensures rewrites { E.rewrites source.old source.new }
 {
     match asked_patches(alloc, codec, bytes, part, total) {

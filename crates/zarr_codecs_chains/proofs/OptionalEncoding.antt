@@ -4,7 +4,7 @@ use Rattle.std.specs.List.{filter}
 use Rattle.zarr_grids_boxes.specs.Boxes.{product}
 use Rattle.zarr_codecs_meaning.specs.Chains.{ByteCodec, Chain}
 use Rattle.zarr_codecs_meaning.specs.Encoding.{encoded, unless_none}
-use Rattle.zarr_codecs_meaning.specs.Fits.{fits}
+use Rattle.zarr_codecs_meaning.specs.Fits.{fits, is_plain}
 use Rattle.zarr_codecs_meaning.specs.Laws.{IsLawfulChain, AreCells}
 use Rattle.zarr_codecs_meaning.specs.Payloads.{Payload}
 use Rattle.zarr_codecs_meaning.specs.Types.{DataType, bool, integer, custom, string, variable_bytes, optional_of, inner_type, Cell, is_value, Elements, zero_filled}
@@ -14,6 +14,7 @@ use Rattle.zarr_codecs_meaning.proofs.Representations.{encoded_size}
 use Rattle.zarr_codecs_arrays.specs.Outcomes.{IsValid}
 use Rattle.zarr_codecs_arrays.specs.declared.error.CodecError.{CodecError}
 use Rattle.zarr_codecs_arrays.specs.declared.error.CodecError.TheVariants as error
+use Rattle.zarr_sharding_changes.proofs.Gapless.{plain_gapless}
 use Rattle.zarr_codecs_traits.specs.Arrays.{coded}
 use Rattle.zarr_codecs_traits.specs.Outcomes.{Encodes, MakesBytes}
 use Rattle.zarr_codecs_sections.specs.Marks.{AreMarked, chosen, count_ones}
@@ -80,8 +81,8 @@ some_made chain type cells count (Err e) same some h = absurd h
 
 -- what is made of the elements of an array that the chain suits
 pub makes_encodes : (chain : Chain) (elements : Elements) (shape : List ℕ) (payload : Payload) (cells : List Cell) (r : Result (Vec ℕ Global) CodecError)
-    → IsLawfulChain chain → is_value elements.type elements.fill ≡ true → fits chain elements.type shape ≡ true → IsValid elements.type payload (product shape) cells → MakesInner chain elements shape cells r → Encodes (coded chain elements shape) true payload r
-makes_encodes chain elements shape payload cells (Ok value) lawful fill fit valid whole =
+    → IsLawfulChain chain → is_value elements.type elements.fill ≡ true → fits chain elements.type shape ≡ true → is_plain chain ≡ true → IsValid elements.type payload (product shape) cells → MakesInner chain elements shape cells r → Encodes (coded chain elements shape) true payload r
+makes_encodes chain elements shape payload cells (Ok value) lawful fill fit plain valid whole =
     let are : AreCells elements shape cells = record { fill = fill; values = valid.values; whole = valid.is.many } in (
       cells,
       record {
@@ -90,9 +91,10 @@ makes_encodes chain elements shape payload cells (Ok value) lawful fill fit vali
         encodes = λ _. whole;
         stands = λ lossless. (laws_of chain lawful).stands elements shape value.items cells fit (inl lossless) are whole;
         sized = encoded_size chain elements shape value.items cells lawful fit are whole;
+        gapless = plain_gapless chain shape value.items plain;
       },
     )
-makes_encodes chain elements shape payload cells (Err error.Codec) lawful fill fit valid h = (cells, record { valid = valid; fit = fit; is = h })
-makes_encodes chain elements shape payload cells (Err error.Size) lawful fill fit valid h = inr (cells, record { valid = valid; fit = fit; is = h })
-makes_encodes chain elements shape payload cells (Err error.Memory) lawful fill fit valid h = tt
-makes_encodes chain elements shape payload cells (Err e) lawful fill fit valid h = absurd h
+makes_encodes chain elements shape payload cells (Err error.Codec) lawful fill fit plain valid h = (cells, record { valid = valid; fit = fit; is = h })
+makes_encodes chain elements shape payload cells (Err error.Size) lawful fill fit plain valid h = inr (cells, record { valid = valid; fit = fit; is = h })
+makes_encodes chain elements shape payload cells (Err error.Memory) lawful fill fit plain valid h = tt
+makes_encodes chain elements shape payload cells (Err e) lawful fill fit plain valid h = absurd h

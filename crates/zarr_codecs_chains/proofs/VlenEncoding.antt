@@ -1,5 +1,5 @@
 -- Elements of variable length encoded by an index and their joined bytes.
-use Rattle.std.proofs.Common.{◌≡◌, ℕ, ◌+◌, ◌^◌, List, [], ◌∷◌, length, true, inr, Some, Ok, Err, Vec, Global}
+use Rattle.std.proofs.Common.{◌≡◌, ℕ, ◌+◌, ◌^◌, List, [], ◌∷◌, length, refl, true, inr, Some, Ok, Err, Vec, Global}
 use Rattle.std.specs.Prelude.{nat_lt}
 use Rattle.zarr_grids_boxes.specs.Boxes.{product}
 use Rattle.zarr_codecs_meaning.specs.Chains.{Chain, Location}
@@ -26,7 +26,7 @@ pub vlen_encodes : (index «data» : Chain) (width : ℕ) (location : Location) 
     → encoded index (zero_filled (integer unsigned width)) ((product shape + 1) ∷ []) (number_cells width (offsets_of cells)) ≡ Some front
     → unless_none (content_of cells) (encoded «data» (zero_filled uint8) (length (content_of cells) ∷ []) (content_of cells)) ≡ Some back → with_index location front back ≡ Some value.items → Encodes (coded chain elements shape) true payload (Ok value)
 vlen_encodes index «data» width location elements shape payload cells front back value lawful fill fit valid near front_is back_is joined =
-    makes_encodes (vlen index «data» width location) elements shape payload cells (Ok value) lawful fill fit valid
+    makes_encodes (vlen index «data» width location) elements shape payload cells (Ok value) lawful fill fit refl valid
     (variable_is_encoded (encoded index (zero_filled (integer unsigned width)) ((product shape + 1) ∷ [])) (λ content. encoded «data» (zero_filled uint8) (length content ∷ []) content) width location cells front back value.items near front_is back_is joined)
 
 -- what the chain of the index refuses

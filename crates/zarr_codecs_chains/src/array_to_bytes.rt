@@ -223,6 +223,7 @@ impl<B: BytesToBytesCodecTraits> ArrayToBytesCodecTraits for ArrayToBytesCodec<B
         }
     }
 
+    #[tactic(auto, using(zarr_codecs_traits::proofs::WrittenWhole::whole_parts, zarr_codecs_traits::proofs::WrittenWhole::whole_given))]
     fn partial_encode_in_order<E: BytesPartialEncoderTraits>(
         &self,
         alloc: Global,

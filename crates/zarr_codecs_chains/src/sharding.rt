@@ -11,11 +11,13 @@ impl<B: BytesToBytesCodecTraits> IndexCodec for CodecChain<B> {
 }
 
 impl<B: BytesToBytesCodecTraits> TakesShardingOptions for CodecChain<B> {
-    ghost use Rattle.std.specs.Prelude.{[], true};
+    ghost use Rattle.std.specs.Prelude.{◌≡◌, [], true};
 
     ghost orders = { λ _. [] };
 
     ghost can_be_exact = { λ _. true };
+
+    ghost same_codecs = { λ chain other. other ≡ chain };
 
     fn with_codec_specific_options(self, _: ShardingCodecOptions) -> CodecChain<B> {
         self

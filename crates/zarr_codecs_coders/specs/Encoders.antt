@@ -3,8 +3,10 @@ use base.Fml.{GName}
 use Rattle.std.specs.Prelude.{◌≡◌, ℕ, List, Option}
 use Rattle.zarr_codecs_meaning.specs.Chains.{Chain}
 use Rattle.zarr_codecs_traits.specs.Arrays.{Coded, coded_array, Update, update_of}
-use Rattle.zarr_codecs_meaning.specs.Payloads.{Payload}
-use Rattle.zarr_codecs_traits.specs.Indexers.{Asked}
+use Rattle.zarr_codecs_arrays.specs.Views.{payload_of}
+use Rattle.zarr_codecs_arrays.specs.declared.array_bytes.ArrayBytes.{ArrayBytes}
+use Rattle.zarr_codecs_traits.specs.Indexers.{asked_of}
+use Rattle.zarr_codecs_traits.specs.declared.indexer.Indexer.{Indexer}
 use Rattle.zarr_codecs_traits.specs.declared.array_part.WholeArray.{WholeArray}
 use Rattle.zarr_codecs_coders.specs.declared.encoder.CodecPartialEncoder.{CodecPartialEncoder}
 
@@ -36,5 +38,5 @@ pub record IsEncoder {C E : Type 0} (old new : CodecPartialEncoder C E) : Type 0
   pub shape : (array_of new).shape.now ≡ (array_of old).shape.now
 
 -- elements that are given for places of the array, before they are put into what the source holds
-abbrev pub update_in : {C E : Type 0} → (E → Option (List ℕ)) → CodecPartialEncoder C E → Asked → Payload → Update
-update_in contents encoder asked payload = update_of asked payload (contents (source_of encoder))
+abbrev pub update_in : {C E : Type 0} → (E → Option (List ℕ)) → CodecPartialEncoder C E → Indexer → ArrayBytes → Update
+update_in contents encoder indexer bytes = update_of (asked_of indexer) (payload_of bytes) (contents (source_of encoder))

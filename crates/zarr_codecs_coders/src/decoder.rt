@@ -1,6 +1,5 @@
 //! Parts of an array decoded of a lent source.
-ghost use Rattle.std.specs.Prelude.{◌≡◌, ◌≤◌, ◌+◌, IfErr, IfOk, IsTrue, OnErr, OnOk, is_some, true};
-ghost use Rattle.zarr_codecs_meaning.specs.Fits.{is_plain};
+ghost use Rattle.std.specs.Prelude.{◌≡◌, ◌≤◌, ◌+◌, IfErr, IfOk, IsTrue, OnErr, OnOk, is_some};
 ghost use Rattle.zarr_codecs_arrays.specs.Views.{elements_of};
 ghost use Rattle.zarr_codecs_traits.specs.Capabilities.{decodes_parts};
 ghost use Rattle.zarr_codecs_traits.specs.Indexers.{asked_of};
@@ -94,9 +93,9 @@ impl<'a, C: ArrayToBytesCodecTraits + Sync, D: BytesPartialDecoderTraits> CodecP
             (asked_of indexer.entry) result }
         ensures refused { CountsRead (D.refused_calls (source_of self.old)) result
             (D.refused_calls (source_of self.new)) }
-        ensures given { is_plain (C.meaning (codec_of self.old)) ≡ true →
-            IsTrue (D.is_honest (source_of self.old)) → D.given_bytes (source_of self.new)
-            ≤ D.given_bytes (source_of self.old) + most_read (C.meaning (codec_of self.old))
+        ensures given { IsTrue (D.is_honest (source_of self.old)) →
+            D.given_bytes (source_of self.new) ≤ D.given_bytes (source_of self.old)
+            + most_read (C.meaning (codec_of self.old))
             (elements_of (array_of self.old).elements.now).type (array_of self.old).shape.now
             (D.contents (source_of self.old)) (asked_of indexer.entry) }
         ensures follows { D.follows (source_of self.old) (source_of self.new) }
@@ -133,9 +132,9 @@ impl<'a, C: ArrayToBytesCodecTraits + Sync, D: BytesPartialDecoderTraits> CodecP
             IsPart (coded_in C.meaning self.old) (D.contents (source_of self.old))
             (asked_of indexer.entry) payload) (T.misfits target.old)
             (D.refused_calls (source_of self.old)) result (D.refused_calls (source_of self.new)) }
-        ensures given { is_plain (C.meaning (codec_of self.old)) ≡ true →
-            IsTrue (D.is_honest (source_of self.old)) → D.given_bytes (source_of self.new)
-            ≤ D.given_bytes (source_of self.old) + most_read (C.meaning (codec_of self.old))
+        ensures given { IsTrue (D.is_honest (source_of self.old)) →
+            D.given_bytes (source_of self.new) ≤ D.given_bytes (source_of self.old)
+            + most_read (C.meaning (codec_of self.old))
             (elements_of (array_of self.old).elements.now).type (array_of self.old).shape.now
             (D.contents (source_of self.old)) (asked_of indexer.entry) }
         ensures follows { D.follows (source_of self.old) (source_of self.new) }

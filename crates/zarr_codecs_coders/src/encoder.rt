@@ -1,12 +1,12 @@
 //! Parts of an array encoded into a lent source.
-ghost use Rattle.std.specs.Prelude.{◌≡◌, ◌≤◌, ◌+◌, None, IfOk, IsTrue, OnErr, OnOk, is_some, true};
-ghost use Rattle.zarr_codecs_meaning.specs.Fits.{is_plain};
+ghost use Rattle.std.specs.Prelude.{◌≡◌, ◌≤◌, ◌+◌, None, IfOk, IsTrue, OnErr, OnOk, is_some};
 ghost use Rattle.zarr_codecs_meaning.specs.Partial.{encodes_in_part};
-ghost use Rattle.zarr_codecs_arrays.specs.Views.{elements_of, payload_of};
+ghost use Rattle.zarr_codecs_arrays.specs.Views.{elements_of};
 ghost use Rattle.zarr_codecs_traits.specs.Indexers.{asked_of};
 ghost use Rattle.zarr_codecs_traits.specs.Outcomes.{DecodesPart};
-ghost use Rattle.zarr_codecs_traits.specs.PartWriting.{EncodesInto, IsPlaced, NotEncodedInto, WritesOnce};
+ghost use Rattle.zarr_codecs_traits.specs.PartWriting.{EncodesInto, NotEncodedInto, WritesOnce};
 ghost use Rattle.zarr_codecs_traits.specs.ReadBytes.{most_read};
+ghost use Rattle.zarr_codecs_traits.specs.ShardWrites.{GivesWriting, LeavesParts};
 ghost use Rattle.zarr_codecs_traits.specs.Sources.{CountsRead, ReadRefused, refused_after};
 ghost use Rattle.zarr_codecs_traits.specs.Writes.{WriteRefused, accepted_after};
 ghost use Rattle.zarr_codecs_coders.specs.Encoders.{IsEncoder, array_of, coded_in, codec_of, reference_of, source_of, update_in};
@@ -112,9 +112,9 @@ impl<'a, C: ArrayToBytesCodecTraits + Sync, E: BytesPartialEncoderTraits> CodecP
             (asked_of indexer.entry) result }
         ensures refused { CountsRead (E.refused_calls (source_of self.old)) result
             (E.refused_calls (source_of self.new)) }
-        ensures given { is_plain (C.meaning (codec_of self.old)) ≡ true →
-            IsTrue (E.is_honest (source_of self.old)) → E.given_bytes (source_of self.new)
-            ≤ E.given_bytes (source_of self.old) + most_read (C.meaning (codec_of self.old))
+        ensures given { IsTrue (E.is_honest (source_of self.old)) →
+            E.given_bytes (source_of self.new) ≤ E.given_bytes (source_of self.old)
+            + most_read (C.meaning (codec_of self.old))
             (elements_of (array_of self.old).elements.now).type (array_of self.old).shape.now
             (E.contents (source_of self.old)) (asked_of indexer.entry) }
         ensures follows { E.follows (source_of self.old) (source_of self.new) }
@@ -142,18 +142,20 @@ impl<'a, C: ArrayToBytesCodecTraits + Sync, E: BytesPartialEncoderTraits> CodecP
     ) -> Result<(), CodecError>
         ensures ok { IsTrue (E.is_honest (source_of self.old)) → OnOk result (EncodesInto
             (coded_in C.meaning self.old) (C.is_function (codec_of self.old))
-            (update_in E.contents self.old (asked_of indexer.entry) (payload_of bytes))
+            (update_in E.contents self.old indexer.entry bytes) (E.contents (source_of self.new))) }
+        ensures parts { IsTrue (E.is_honest (source_of self.old)) → OnOk result (LeavesParts
+            (coded_in C.meaning self.old) (update_in E.contents self.old indexer.entry bytes)
             (E.contents (source_of self.new))) }
-        ensures placed { IsTrue (E.is_honest (source_of self.old)) → OnOk result
-            (IsPlaced (C.meaning (codec_of self.old)) (array_of self.old).shape.now
-            (E.contents (source_of self.old))) }
         ensures err { IsTrue (E.is_honest (source_of self.old)) →
             OnErr result (E.contents (source_of self.new) ≡ E.contents (source_of self.old)) }
-        ensures cause { IsTrue (E.is_honest (source_of self.old)) → NotEncodedInto
-            (coded_in C.meaning self.old)
-            (update_in E.contents self.old (asked_of indexer.entry) (payload_of bytes)) result }
+        ensures cause { IsTrue (E.is_honest (source_of self.old)) → NotEncodedInto (coded_in
+            C.meaning self.old) (update_in E.contents self.old indexer.entry bytes) result }
         ensures refused { E.refused_calls (source_of self.new) ≡
             refused_after (E.refused_calls (source_of self.old)) result }
+        ensures given { IsTrue (E.is_honest (source_of self.old)) →
+            IsTrue (E.writes_ranges (source_of self.old)) → GivesWriting
+            (coded_in C.meaning self.old) (update_in E.contents self.old indexer.entry bytes)
+            (E.given_bytes (source_of self.old)) (E.given_bytes (source_of self.new)) }
         ensures once { WritesOnce (E.accepted_writes (source_of self.old))
             (E.accepted_writes (source_of self.new)) result }
         ensures rewrites { E.rewrites (source_of self.old) (source_of self.new) }

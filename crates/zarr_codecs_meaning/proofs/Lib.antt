@@ -30,5 +30,6 @@ pub mod Counts
 pub mod DecodedValues
 pub mod PartReading
 pub mod Refusals
+mod WorkedRefusals
 pub mod Chunks
 pub mod DecodedElements

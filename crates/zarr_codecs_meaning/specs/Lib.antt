@@ -17,3 +17,4 @@ pub mod KeptLaws
 pub mod WorkedValues
 pub mod WorkedPlain
 pub mod WorkedShards
+pub mod WorkedRefusals

@@ -6,6 +6,7 @@ ghost use Rattle.zarr_codecs_meaning.specs.Refusals.{EncodingRefused};
 ghost use Rattle.zarr_codecs_meaning.specs.WorkedValues.{ValueRows, FitRows};
 ghost use Rattle.zarr_codecs_meaning.specs.WorkedPlain.{PlainRows};
 ghost use Rattle.zarr_codecs_meaning.specs.WorkedShards.{ShardRows, StandingRows, DamageRows};
+ghost use Rattle.zarr_codecs_meaning.specs.WorkedRefusals.{RefusalRows};
 
 /// Which bytes are values of which types.
 pub fn value_rows()
@@ -35,6 +36,11 @@ pub fn standing_rows()
 /// Values that are damaged, whole or in part.
 pub fn damage_rows()
     ensures { DamageRows }
+{}
+
+/// Cells that a caller's codec refuses, and cells that it doesn't.
+pub fn refusal_rows()
+    ensures { RefusalRows }
 {}
 
 /// What a chain encodes has the size that `representation_of` tells, or at most that size.

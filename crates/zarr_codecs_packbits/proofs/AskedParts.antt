@@ -56,7 +56,7 @@ fills_asked chain elements shape asked count payload inside many fit lists = rec
 pub padded_most : (codec : PackBitsCodec) (type : DataType) (shape : List ℕ) (contents : Option (List ℕ)) (asked : Asked) (old new : ℕ) → (codec.padding ≡ padding.None → ⊥) → new ≤ old + value_length contents → new ≤ old + most_read (packbits_chain codec) type shape contents asked
 padded_most codec type shape None asked old new told h = h
 padded_most codec type shape (Some value) asked old new told h = by_padding codec.padding told h where
-  by_padding : (p : PackBitsPaddingEncoding) → (p ≡ padding.None → ⊥) → new ≤ old + length value → new ≤ old + bytes_of_numbers (packbits (padding_of p) (unwrap_or codec.first_bit 0) codec.last_bit) type shape (numbers_asked shape asked) (length value)
+  by_padding : (p : PackBitsPaddingEncoding) → (p ≡ padding.None → ⊥) → new ≤ old + length value → new ≤ old + bytes_of_numbers (packbits (padding_of p) (unwrap_or codec.first_bit 0) codec.last_bit) type shape (numbers_asked shape asked) value
   by_padding padding.None told h = absurd (told refl)
   by_padding padding.FirstByte told h = h
   by_padding padding.LastByte told h = h

@@ -1,6 +1,6 @@
 -- What is stored after a value was written whole, and why it isn't written.
 use Rattle.std.proofs.Common.{◌≡◌, ◌∙◌, ℕ, List, [], ◌∷◌, length, map, refl, sym, ap, subst, inl, inr, Option, Some, None, Bool, true, false, replicate, Result, Ok, Err, Vec, Global}
-use Rattle.std.specs.Prelude.{IfOk, MatchOption, option_map, unwrap_or}
+use Rattle.std.specs.Prelude.{IfOk, MatchOption, OnOk, option_map, unwrap_or}
 use Rattle.std.specs.List.{list_all}
 use Rattle.zarr_grids_boxes.specs.Boxes.{product}
 use Rattle.zarr_codecs_meaning.specs.Chains.{Chain}
@@ -22,7 +22,8 @@ use Rattle.zarr_codecs_arrays.specs.declared.error.CodecError.TheVariants as err
 use Rattle.zarr_codecs_traits.specs.Indexers.{Asked, are_inside, numbers_asked, put}
 use Rattle.zarr_codecs_traits.specs.Arrays.{coded, update_of}
 use Rattle.zarr_codecs_traits.specs.Outcomes.{IsEncoded, IsRefused}
-use Rattle.zarr_codecs_traits.specs.PartWriting.{IsEncodedInto, IsRefusedInto, MeetsLost, NotEncodedWhole}
+use Rattle.zarr_codecs_traits.specs.PartWriting.{AfterPut, IsEncodedInto, MeetsLost, NotEncodedWhole}
+use Rattle.zarr_codecs_traits.specs.ShardWrites.{IsStoredGapless}
 use Rattle.zarr_codecs_traits.specs.Sources.{value_bytes}
 use Rattle.zarr_codecs_traits.proofs.Damage.{decoded_intact}
 use Rattle.zarr_codecs_regions.specs.Updates.{IsUpdated, Updates}
@@ -176,10 +177,23 @@ encoded_whole chain exact elements shape asked payload array made old (Ok (Some 
       }),
     )
 
+-- ---- values without gaps
+
+pub kept_gapless : (chain : Chain) (exact : Bool) (elements : Elements) (shape : List ℕ) (made : Payload) (result : Result (Option (Vec ℕ Global)) CodecError) → EncodesOrDrops chain exact elements shape made result
+    → IfOk result (λ value. IsStoredGapless chain shape (value_bytes value))
+kept_gapless chain exact elements shape made (Err e) done = tt
+kept_gapless chain exact elements shape made (Ok None) done = tt
+kept_gapless chain exact elements shape made (Ok (Some value)) kept = kept.encodes.1.gapless
+
+-- what is stored then has none
+pub stored_gapless : {A : Type 0} (r : Result A CodecError) (chain : Chain) (shape : List ℕ) (value new : Option (List ℕ)) → IsStoredGapless chain shape value → OnOk r (new ≡ value) → OnOk r (IsStoredGapless chain shape new)
+stored_gapless (Ok done) chain shape value new gapless is = subst (IsStoredGapless chain shape) (sym is) gapless
+stored_gapless (Err e) chain shape value new gapless is = tt
+
 -- ---- why it isn't written
 
 refused_after_update : (chain : Chain) (elements : Elements) (shape : List ℕ) (asked : Asked) (payload array made : Payload) (old : Option (List ℕ)) (refuses : Chain → Elements → List ℕ → List Cell → Type 0) (after : List Cell)
-    → HasUpdated chain elements shape asked payload array made old → IsRefused (coded chain elements shape) made after refuses → IsRefusedInto (coded chain elements shape) (update_of asked payload old) (refuses chain elements shape)
+    → HasUpdated chain elements shape asked payload array made old → IsRefused (coded chain elements shape) made after refuses → AfterPut (coded chain elements shape) (update_of asked payload old) (refuses chain elements shape)
 refused_after_update chain elements shape asked payload array made old refuses after h why =
     let ns = numbers_asked shape asked in
     let same : after ≡ put ns h.can.cells h.before = some_same (sym why.valid.is.lists ∙ h.lists) in

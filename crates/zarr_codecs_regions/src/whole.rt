@@ -1,5 +1,5 @@
 //! A value of which some elements are replaced, written whole.
-ghost use Rattle.std.specs.Prelude.{◌≡◌, ◌≤◌, ◌^◌, ℕ, List, Option, Some, IsTrue, IfNone, IfOk, IfSome, OnErr, OnOk, length, true};
+ghost use Rattle.std.specs.Prelude.{◌≡◌, ◌≤◌, ◌+◌, ◌^◌, ℕ, List, Option, Some, IsTrue, IfNone, IfOk, IfSome, OnErr, OnOk, length, true};
 ghost use Rattle.zarr_grids_boxes.specs.Boxes.{product};
 ghost use Rattle.zarr_codecs_meaning.specs.Fits.{fits};
 ghost use Rattle.zarr_codecs_meaning.specs.Types.{Cell};
@@ -7,7 +7,8 @@ ghost use Rattle.zarr_codecs_arrays.specs.Views.{elements_of, payload_of};
 ghost use Rattle.zarr_codecs_traits.specs.Indexers.{are_inside, asked_of, numbers_asked};
 ghost use Rattle.zarr_codecs_traits.specs.Arrays.{coded_part, update_part};
 ghost use Rattle.zarr_codecs_traits.specs.PartWriting.{IsEncodedInto, NotEncodedWhole, NotTaken, WritesOnce};
-ghost use Rattle.zarr_codecs_traits.specs.Sources.{refused_after, value_bytes};
+ghost use Rattle.zarr_codecs_traits.specs.ShardWrites.{IsStoredGapless};
+ghost use Rattle.zarr_codecs_traits.specs.Sources.{refused_after, value_bytes, value_length};
 ghost use Rattle.zarr_codecs_regions.specs.Whole.{CanBePut, EncodesOrDrops, GivesStored};
 
 use crate::asked::test_asked;
@@ -34,6 +35,8 @@ pub fn encode_whole<C: WholeValues, E: BytesPartialEncoderTraits>(
         ((cells : List Cell) × IsEncodedInto (coded_part (C.meaning codec.now) part.entry)
         (C.is_function codec.now) (update_part part.entry bytes (E.contents source.old)) cells
         (E.contents source.new)) }
+    ensures gapless { IsTrue (E.is_honest source.old) → OnOk result (IsStoredGapless
+        (C.meaning codec.now) part.entry.shape.now (E.contents source.new)) }
     ensures err { IsTrue (E.is_honest source.old) →
         OnErr result (E.contents source.new ≡ E.contents source.old) }
     ensures cause { IsTrue (E.is_honest source.old) → NotEncodedWhole
@@ -42,6 +45,8 @@ pub fn encode_whole<C: WholeValues, E: BytesPartialEncoderTraits>(
     ensures refused { E.refused_calls source.new ≡
         refused_after (E.refused_calls source.old) result }
     ensures once { WritesOnce (E.accepted_writes source.old) (E.accepted_writes source.new) result }
+    ensures given { IsTrue (E.is_honest source.old) → E.given_bytes source.new
+        ≤ E.given_bytes source.old + value_length (E.contents source.old) }
     ensures rewrites { E.rewrites source.old source.new }
 {
     if let Err(error) = test_given(codec, alloc, &bytes, part) {
@@ -135,6 +140,8 @@ fn updated_value<C: WholeValues>(
     ensures ok { IfOk result (λ value. (cells : List Cell) × IsEncodedInto
         (coded_part (C.meaning codec.now) part.entry) (C.is_function codec.now)
         (update_part part.entry bytes (value_bytes old)) cells (value_bytes value)) }
+    ensures gapless { IfOk result (λ value. IsStoredGapless (C.meaning codec.now)
+        part.entry.shape.now (value_bytes value)) }
     ensures cause { NotEncodedWhole (coded_part (C.meaning codec.now) part.entry)
         (update_part part.entry bytes (value_bytes old)) result }
     ensures no_source { (count : ℕ) → refused_after count result ≡ count }

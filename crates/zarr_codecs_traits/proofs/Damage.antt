@@ -1,5 +1,6 @@
 -- What is stored, where it is decoded whole.
 use Rattle.std.proofs.Common.{◌≡◌, ◌∙◌, ℕ, List, [], ◌∷◌, ap, sym, subst, inl, inr, map, Option, None, Some, replicate, option_map, option_and_then, Bool, true, false, if◌then◌else◌, MatchBool, Result, Ok, Err}
+use Rattle.std.specs.Prelude.{◌⊎◌}
 use Rattle.std.proofs.lemmas.Bool.{and_parts}
 use Rattle.zarr_grids_boxes.specs.Boxes.{product}
 use Rattle.zarr_codecs_meaning.specs.Chains.{ArrayCodec, Chain}
@@ -19,7 +20,7 @@ use Rattle.zarr_codecs_arrays.specs.declared.error.CodecError.{CodecError}
 use Rattle.zarr_codecs_arrays.specs.declared.error.CodecError.TheVariants as error
 use Rattle.zarr_codecs_traits.specs.Arrays.{Coded, Update}
 use Rattle.zarr_codecs_traits.specs.Indexers.{numbers_asked}
-use Rattle.zarr_codecs_traits.specs.PartWriting.{IsDamaged, IsLostAmong, IsPlaced, MeetsLost, NotEncodedInto, NotEncodedWhole, NotPut, NotTaken, StopsPart, StopsWrite, cells_after}
+use Rattle.zarr_codecs_traits.specs.PartWriting.{IsDamaged, IsLostAmong, IsPlaced, LacksRoom, MeetsLost, NotEncodedInto, NotEncodedWhole, NotPut, NotTaken, PartsRefused, StopsPart, StopsWrite, WriteRefuses, after_write, cells_after}
 use Rattle.zarr_sharding_changes.specs.Compactions.{compaction, damaged, nothing_to_gain, undone_compaction}
 
 -- ---- a value that is decoded has lost nothing
@@ -134,9 +135,16 @@ not_put less more few many array update (Err e) law wider h = h
 pub whole_not_put : {A : Type 0} (array : Coded) (update : Update) (r : Result A CodecError) → encodes_in_part array.chain ≡ false → NotEncodedWhole array update r → NotEncodedInto array update r
 whole_not_put array update r whole h =
     let refused = λ (after : List Cell). CodecRefuses array.chain array.elements array.shape after in
-    not_put (chunk_decoded array.chain array.elements array.shape update.stored ≡ None) (StopsWrite array update) refused refused array update r
-    (λ none. inl (whole_damaged array.chain array.elements array.shape update.stored (numbers_asked array.shape update.asked) whole none)) (λ after is. is) h
+    not_put (chunk_decoded array.chain array.elements array.shape update.stored ≡ None) (StopsWrite array update) refused (WriteRefuses array update) array update r
+    (λ none. inl (whole_damaged array.chain array.elements array.shape update.stored (numbers_asked array.shape update.asked) whole none))
+    (λ after is. subst (λ (b : Bool). MatchBool b (PartsRefused array.chain array.elements array.shape (after_write (numbers_asked array.shape update.asked) update.stored after) ⊎ (LacksRoom array update × refused after)) (refused after)) (sym whole) is) h
 
 pub untaken_not_put : {A : Type 0} (array : Coded) (update : Update) (r : Result A CodecError) → NotTaken array update r → NotEncodedInto array update r
-untaken_not_put array update r h =
-    let refused = λ (after : List Cell). CodecRefuses array.chain array.elements array.shape after in not_put ⊥ (StopsWrite array update) refused refused array update r (λ none. absurd none) (λ after is. is) h
+untaken_not_put array update r h = not_put ⊥ (StopsWrite array update) (λ after. ⊥) (WriteRefuses array update) array update r (λ none. absurd none) (λ after none. absurd none) h
+
+-- what isn't written whole, where there was no room for the new slices
+pub unroomed_not_put : {A : Type 0} (array : Coded) (update : Update) (r : Result A CodecError) → encodes_in_part array.chain ≡ true → LacksRoom array update → NotEncodedWhole array update r → NotEncodedInto array update r
+unroomed_not_put array update r partly room h =
+    let refused = λ (after : List Cell). CodecRefuses array.chain array.elements array.shape after in
+    not_put (chunk_decoded array.chain array.elements array.shape update.stored ≡ None) (StopsWrite array update) refused (WriteRefuses array update) array update r (λ none. inr (none, room))
+    (λ after is. subst (λ (b : Bool). MatchBool b (PartsRefused array.chain array.elements array.shape (after_write (numbers_asked array.shape update.asked) update.stored after) ⊎ (LacksRoom array update × refused after)) (refused after)) (sym partly) (inr (room, is))) h

@@ -8,7 +8,9 @@ pub mod Writes
 pub mod Targets
 pub mod PartEncoding
 pub mod PartWriting
+pub mod ShardWrites
 pub mod Representations
 pub mod Capabilities
 pub mod Compactions
 pub mod Pieces
+pub mod WorkedWrites

@@ -21,6 +21,7 @@ use Rattle.zarr_codecs_arrays.specs.Views.{payload_of}
 use Rattle.zarr_codecs_arrays.specs.declared.array_bytes.ArrayBytes.{ArrayBytes}
 use Rattle.zarr_codecs_arrays.specs.declared.error.CodecError.{CodecError}
 use Rattle.zarr_codecs_arrays.specs.declared.error.CodecError.TheVariants as error
+use Rattle.zarr_sharding_changes.specs.Gapless.{IsGapless}
 use Rattle.zarr_codecs_traits.specs.Arrays.{Coded}
 use Rattle.zarr_codecs_traits.specs.Indexers.{Asked, are_inside, numbers_asked}
 
@@ -48,13 +49,14 @@ Creates reads meaning point (Err e) = reads point ≡ None
 
 -- ---- codecs between arrays and bytes
 
--- a value was made of the elements of an array: what encoding them means, where what is made depends on them alone; and one that stands for them, where the chain keeps every bit
+-- a value was made of the elements of an array: what encoding them means, where what is made depends on them alone; and one that stands for them, where the chain keeps every bit. It has no gaps
 pub record IsEncoded (array : Coded) (exact : Bool) (payload : Payload) (cells : List Cell) (value : List ℕ) : Type 0 where
   pub valid : IsValid array.elements.type payload (product array.shape) cells
   pub fit : fits array.chain array.elements.type array.shape ≡ true
   pub encodes : IsTrue exact → encoded array.chain array.elements array.shape cells ≡ Some value
   pub stands : is_lossless array.chain array.elements.type ≡ true → Stands array.chain array.elements array.shape value cells
   pub sized : is_size_as (representation_of array.chain array.elements.type array.shape) (length value) ≡ true
+  pub gapless : IsGapless array.chain array.shape value
 
 -- the elements of an array are not encoded: a caller's codec refuses, or an offset or a length is too large for where it is written
 pub record IsRefused (array : Coded) (payload : Payload) (cells : List Cell) (refuses : Chain → Elements → List ℕ → List Cell → Type 0) : Type 0 where

@@ -1,21 +1,24 @@
 -- What is stored for an array after some of its elements were replaced.
-use Rattle.std.specs.Prelude.{◌≡◌, ◌⊎◌, ℕ, ◌+◌, ◌^◌, ◌≤◌, List, [], ◌∷◌, map, length, get_or, Option, Some, None, unwrap_or, option_and_then, Result, Ok, Err, Bool, true, false, nat_lt, IsTrue, MatchBool, MatchOption}
+use Rattle.std.specs.Prelude.{◌≡◌, ◌⊎◌, ℕ, ◌+◌, ◌^◌, ◌<◌, ◌≤◌, List, [], ◌∷◌, map, length, get_or, Option, Some, None, unwrap_or, option_and_then, Result, Ok, Err, Bool, true, false, nat_lt, IsTrue, MatchBool, MatchOption}
 use Rattle.std.specs.List.{list_any}
 use Rattle.std.specs.Option.{option_map_or}
 use Rattle.zarr_grids_boxes.specs.Boxes.{product}
-use Rattle.zarr_codecs_meaning.specs.Chains.{Chain}
+use Rattle.zarr_codecs_meaning.specs.Chains.{ArrayCodec, Chain}
 use Rattle.zarr_codecs_meaning.specs.Chains.Chain.{bytes, packbits, vlen, optional, after_array_codec, then_bytes, sharded}
 use Rattle.zarr_codecs_meaning.specs.Chunks.{chunk_decoded, chunk_part}
 use Rattle.zarr_codecs_meaning.specs.Decoding.{decoded, is_absent, opens, pairs_in, slice_at}
-use Rattle.zarr_codecs_meaning.specs.Encoding.{Pair, Piece, encoded, index_size, joined_slices, pieces_of}
-use Rattle.zarr_codecs_meaning.specs.Fits.{fits, is_lossless, is_plain}
+use Rattle.zarr_codecs_meaning.specs.Encoding.{Pair, Piece, base_of, encoded, index_size, joined_slices, pair_cells, pieces_of}
+use Rattle.zarr_codecs_meaning.specs.Fits.{fits, is_lossless, is_plain, is_size_as, representation_of}
 use Rattle.zarr_codecs_meaning.specs.Partial.{encodes_in_part}
 use Rattle.zarr_codecs_meaning.specs.Laws.{AreCells}
 use Rattle.zarr_codecs_meaning.specs.Places.{Part, encoded_shape, gather, index_shape, parts_of, place_numbers, position_of, source_places}
-use Rattle.zarr_codecs_meaning.specs.Refusals.{CodecRefuses, IsMade, PassesIndex}
+use Rattle.zarr_codecs_meaning.specs.Refusals.{CodecRefuses, IsMadeOf, PassesIndex}
 use Rattle.zarr_codecs_meaning.specs.Standing.{ChunkStands, Tight}
 use Rattle.zarr_codecs_meaning.specs.Types.{Cell, Elements, is_fill, uint64, zero_filled, IsTooLarge}
+use Rattle.zarr_sharding_changes.specs.Changes.{Change}
 use Rattle.zarr_sharding_changes.specs.Compactions.{compaction, damaged}
+use Rattle.zarr_sharding_changes.specs.Gapless.{IsGapless}
+use Rattle.zarr_sharding_changes.specs.HeldShards.{HeldShard, held_after, held_in}
 use Rattle.zarr_codecs_arrays.specs.Outcomes.{IsInvalid, IsValid}
 use Rattle.zarr_codecs_arrays.specs.declared.error.CodecError.{CodecError}
 use Rattle.zarr_codecs_arrays.specs.declared.error.CodecError.TheVariants as error
@@ -110,6 +113,12 @@ AreSlices made [] (slice ∷ slices) = ⊥
 AreSlices made (piece ∷ pieces) [] = ⊥
 AreSlices made (piece ∷ pieces) (slice ∷ slices) = MatchOption slice (Unit {0}) (made piece.0 piece.1) × AreSlices made pieces slices
 
+-- a slice that a write may make of a subchunk's cells: where the chain keeps every bit, it was made of them; it has a size that the chain tells, and no gaps
+pub record IsNewSlice (chain : Chain) (elements : Elements) (shape : List ℕ) (cells : List Cell) (slice : List ℕ) : Type 0 where
+  pub made : IsMadeOf chain elements shape cells slice
+  pub sized : is_size_as (representation_of chain elements.type shape) (length slice) ≡ true
+  pub gapless : IsGapless chain shape slice
+
 -- new slices for the subchunks' cells, put behind what is stored, or behind an index where nothing is, would make 2^63 bytes or more
 abbrev pub PassesLength : Chain → Elements → List ℕ → Option (List ℕ) → List Cell → Type 0
 PassesLength (bytes order) elements shape stored cells = ⊥
@@ -119,16 +128,76 @@ PassesLength (optional mask values) elements shape stored cells = ⊥
 PassesLength (after_array_codec codec chain) elements shape stored cells = PassesLength chain elements (encoded_shape codec shape) stored (gather elements.fill cells (source_places codec shape))
 PassesLength (then_bytes chain codec) elements shape stored cells = ⊥
 PassesLength (sharded subchunk inner index location) elements shape stored cells =
-    (slices : List (Option (List ℕ))) × AreSlices (IsMade inner elements) (pieces_of elements.fill cells (parts_of shape subchunk)) slices
+    (slices : List (Option (List ℕ))) × AreSlices (IsNewSlice inner elements) (pieces_of elements.fill cells (parts_of shape subchunk)) slices
     × (2 ^ 63 ≤ option_map_or length stored (index_size index (index_shape shape subchunk)) + length (joined_slices slices))
 
--- valid elements for places of an array that the chain suits are refused, by the cells that the array would have
-pub record IsRefusedInto (array : Coded) (update : Update) (refuses : List Cell → Type 0) : Type 0 where
+-- a write at the places with these numbers, into what is stored: the cells that the array then has
+pub record AfterWrite : Type 0 where
+  pub numbers : List ℕ
+  pub stored : Option (List ℕ)
+  pub cells : List Cell
+
+-- the same, put together
+abbrev pub after_write : List ℕ → Option (List ℕ) → List Cell → AfterWrite
+after_write numbers stored cells = record { numbers = numbers; stored = stored; cells = cells }
+
+-- the same write as an array codec moves its places and cells
+abbrev pub write_moved : ArrayCodec → Cell → List ℕ → AfterWrite → AfterWrite
+write_moved codec fill shape write = after_write (map (λ n. position_of n (source_places codec shape)) write.numbers) write.stored (gather fill write.cells (source_places codec shape))
+
+-- no subchunk
+abbrev pub no_part : Part
+no_part = record { shape = []; places = [] }
+
+-- the number of the subchunk of a change
+abbrev pub number_at : List Change → ℕ → ℕ
+number_at changes i = (get_or changes i (0, None)).0
+
+-- that subchunk
+abbrev pub part_at : List Part → List Change → ℕ → Part
+part_at parts changes i = get_or parts (number_at changes i) no_part
+
+-- changes are of the subchunks that one of the places with these numbers lies in, of all of them, one of each, in the order of their numbers
+pub record AreMet (numbers : List ℕ) (parts : List Part) (changes : List Change) : Type 0 where
+  pub below : (i : ℕ) → i < length changes → number_at changes i < length parts
+  pub met : (i : ℕ) → i < length changes → is_met numbers (part_at parts changes i) ≡ true
+  pub rising : (i j : ℕ) → i < j → j < length changes → number_at changes i < number_at changes j
+  pub all : (k : ℕ) → k < length parts → is_met numbers (get_or parts k no_part) ≡ true → (i : ℕ) × (i < length changes) × (number_at changes i ≡ k)
+
+-- the slice of each change was made of its subchunk's cells; there is none where they are all fill
+abbrev pub NewSlicesMade : (List ℕ → List Cell → List ℕ → Type 0) → Cell → List Cell → List Part → List Change → Type 0
+NewSlicesMade made fill cells parts changes = (i : ℕ) → i < length changes → let piece = gather fill cells (part_at parts changes i).places in
+    MatchOption (get_or changes i (0, None)).1 (is_fill fill piece ≡ true) (λ slice. (is_fill fill piece ≡ false) × made (part_at parts changes i).shape piece slice)
+
+-- a subchunk that one of the places lies in, and that isn't all fill then, is refused
+abbrev pub MetRefused : (List ℕ → List Cell → Type 0) → Cell → AfterWrite → List Part → Type 0
+MetRefused refused fill write [] = ⊥
+MetRefused refused fill write (part ∷ parts) =
+    ((is_met write.numbers part ≡ true) × (is_fill fill (gather fill write.cells part.places) ≡ false) × refused part.shape (gather fill write.cells part.places)) ⊎ MetRefused refused fill write parts
+
+-- a caller's codec refuses what a write asks it to encode of the parts that it meets: in a shard what a met subchunk's chain is asked, or the index of the pairs after the met subchunks got their new slices behind the data part
+abbrev pub PartsRefused : Chain → Elements → List ℕ → AfterWrite → Type 0
+PartsRefused (bytes order) elements shape write = ⊥
+PartsRefused (packbits padding first last) elements shape write = ⊥
+PartsRefused (vlen index «data» width location) elements shape write = ⊥
+PartsRefused (optional mask values) elements shape write = ⊥
+PartsRefused (after_array_codec codec chain) elements shape write = PartsRefused chain elements (encoded_shape codec shape) (write_moved codec elements.fill shape write)
+PartsRefused (then_bytes chain codec) elements shape write = ⊥
+PartsRefused (sharded subchunk inner index location) elements shape write =
+    let parts = parts_of shape subchunk in
+    let pairs_shape = index_shape shape subchunk in
+    let base = base_of location (index_size index pairs_shape) in
+    MetRefused (CodecRefuses inner elements) elements.fill write parts
+    ⊎ ((held : HeldShard) × (changes : List Change) × (held_in subchunk index location shape write.stored ≡ Some held) × AreMet write.numbers parts changes
+    × NewSlicesMade (IsNewSlice inner elements) elements.fill write.cells parts changes × CodecRefuses index (zero_filled uint64) pairs_shape (pair_cells (held_after base changes held).pairs))
+
+-- valid elements for places of an array that the chain suits, and a fact of the cells that the array has after they were put there
+pub record AfterPut (array : Coded) (update : Update) (fact : List Cell → Type 0) : Type 0 where
   pub cells : List Cell
   pub valid : IsValid array.elements.type update.payload (length (numbers_asked array.shape update.asked)) cells
   pub fit : fits array.chain array.elements.type array.shape ≡ true
   pub inside : are_inside array.shape update.asked ≡ true
-  pub is : refuses (cells_after array update.stored (numbers_asked array.shape update.asked) cells)
+  pub is : fact (cells_after array update.stored (numbers_asked array.shape update.asked) cells)
 
 -- a value that can be written in part isn't, at the places with these numbers: it can't be read at all, or the write meets in it what can't be decoded, or a present slice of a shard lies outside the shard's data part
 abbrev pub StopsPart : Chain → Elements → List ℕ → List ℕ → List ℕ → Type 0
@@ -138,11 +207,13 @@ StopsPart chain elements shape value numbers = (opens chain elements shape value
 abbrev pub IsDamaged : Chain → Elements → List ℕ → Option (List ℕ) → List ℕ → Type 0
 IsDamaged chain elements shape stored numbers = MatchOption stored ⊥ (λ value. MatchBool (encodes_in_part chain) (StopsPart chain elements shape value numbers) (decoded chain elements shape value ≡ None))
 
--- what is stored can't be decoded, and, if the chain keeps every bit, would have to be: put behind it, the new slices of its shard would make 2^63 bytes or more
+-- the new slices, put behind what is stored, would make 2^63 bytes or more
+abbrev pub LacksRoom : Coded → Update → Type 0
+LacksRoom array update = AfterPut array update (PassesLength array.chain array.elements array.shape update.stored)
+
+-- what is stored can't be decoded, and would have to be, since there is no room behind it for the new slices
 abbrev pub HasNoRoom : Coded → Update → Type 0
-HasNoRoom array update =
-    (chunk_decoded array.chain array.elements array.shape update.stored ≡ None)
-    × (is_lossless array.chain array.elements.type ≡ true → IsRefusedInto array update (PassesLength array.chain array.elements array.shape update.stored))
+HasNoRoom array update = (chunk_decoded array.chain array.elements array.shape update.stored ≡ None) × LacksRoom array update
 
 -- why new elements are not put at the places that are asked for, with this for damage, and this for a codec that refuses the cells that the array would have
 abbrev pub NotPut : {A : Type 0} → Type 0 → (List Cell → Type 0) → Coded → Update → Result A CodecError → Type 0
@@ -150,8 +221,8 @@ NotPut damage refuses array update (Ok value) = Unit {0}
 NotPut damage refuses array update (Err error.Fit) = fits array.chain array.elements.type array.shape ≡ false
 NotPut damage refuses array update (Err error.IncompatibleIndexer) = are_inside array.shape update.asked ≡ false
 NotPut damage refuses array update (Err error.Size) =
-    IsTooLarge array.elements.type (product array.shape) ⊎ IsRefusedInto array update (λ after. PassesIndex array.chain array.elements array.shape after ⊎ PassesLength array.chain array.elements array.shape update.stored after)
-NotPut damage refuses array update (Err error.Codec) = IsRefusedInto array update refuses
+    IsTooLarge array.elements.type (product array.shape) ⊎ AfterPut array update (λ after. PassesIndex array.chain array.elements array.shape after ⊎ PassesLength array.chain array.elements array.shape update.stored after)
+NotPut damage refuses array update (Err error.Codec) = AfterPut array update refuses
 NotPut damage refuses array update (Err error.Damage) = (fits array.chain array.elements.type array.shape ≡ true) × damage
 NotPut damage refuses array update (Err error.Source) = Unit {0}
 NotPut damage refuses array update (Err error.Memory) = Unit {0}
@@ -161,18 +232,24 @@ NotPut damage refuses array update (Err e) = (fits array.chain array.elements.ty
 abbrev pub StopsWrite : Coded → Update → Type 0
 StopsWrite array update = IsDamaged array.chain array.elements array.shape update.stored (numbers_asked array.shape update.asked) ⊎ HasNoRoom array update
 
+-- a caller's codec refuses what a write asks it to encode, by the cells that the array would have: where the chain is encoded in part, what is asked for the parts that the write meets, or, where there is no room for these, for the whole; else what is asked for the whole
+abbrev pub WriteRefuses : Coded → Update → List Cell → Type 0
+WriteRefuses array update after =
+    let whole = CodecRefuses array.chain array.elements array.shape after in
+    MatchBool (encodes_in_part array.chain) (PartsRefused array.chain array.elements array.shape (after_write (numbers_asked array.shape update.asked) update.stored after) ⊎ (LacksRoom array update × whole)) whole
+
 -- why new elements are not put at the places that are asked for
 abbrev pub NotEncodedInto : {A : Type 0} → Coded → Update → Result A CodecError → Type 0
-NotEncodedInto array update result = NotPut (StopsWrite array update) (CodecRefuses array.chain array.elements array.shape) array update result
+NotEncodedInto array update result = NotPut (StopsWrite array update) (WriteRefuses array update) array update result
 
--- the same where the value is decoded whole and written anew: it is damaged where it isn't decoded
+-- the same where the value is decoded whole and written anew: it is damaged where it isn't decoded, and the whole is what is asked for
 abbrev pub NotEncodedWhole : {A : Type 0} → Coded → Update → Result A CodecError → Type 0
 NotEncodedWhole array update result =
     NotPut (chunk_decoded array.chain array.elements array.shape update.stored ≡ None) (CodecRefuses array.chain array.elements array.shape) array update result
 
--- the same before anything is read, which tells of no damage
+-- the same before anything is read, which tells of no damage and asks no codec
 abbrev pub NotTaken : {A : Type 0} → Coded → Update → Result A CodecError → Type 0
-NotTaken array update result = NotPut ⊥ (CodecRefuses array.chain array.elements array.shape) array update result
+NotTaken array update result = NotPut ⊥ (λ after. ⊥) array update result
 
 -- at most one writing call was accepted, and none where the call is refused (a count stands still at 2^128 - 1)
 abbrev pub WritesOnce : {A : Type 0} → ℕ → ℕ → Result A CodecError → Type 0

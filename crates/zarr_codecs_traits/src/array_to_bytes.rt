@@ -1,8 +1,8 @@
 //! Codecs between arrays and bytes.
-ghost use Rattle.std.specs.Prelude.{◌≡◌, ◌≤◌, ◌+◌, ◌<◌, ℕ, Bool, List, Option, Result, Vec, IfErr, IfOk, IsTrue, OnErr, OnOk, length, true};
+ghost use Rattle.std.specs.Prelude.{◌≡◌, ◌≤◌, ◌+◌, ◌<◌, ℕ, Bool, List, Option, Result, Vec, IfErr, IfOk, IsTrue, OnErr, OnOk, length};
 ghost use Rattle.std.specs.declared.alloc.Global.{Global};
 ghost use Rattle.zarr_codecs_meaning.specs.Chains.{Chain};
-ghost use Rattle.zarr_codecs_meaning.specs.Fits.{fits, is_plain};
+ghost use Rattle.zarr_codecs_meaning.specs.Fits.{fits};
 ghost use Rattle.zarr_codecs_meaning.specs.Laws.{IsLawfulChain};
 ghost use Rattle.zarr_codecs_meaning.specs.Partial.{encodes_in_part};
 ghost use Rattle.zarr_codecs_meaning.specs.Payloads.{Payload};
@@ -17,10 +17,11 @@ ghost use Rattle.zarr_codecs_traits.specs.Compactions.{Compacts};
 ghost use Rattle.zarr_codecs_traits.specs.Indexers.{Asked, asked_of};
 ghost use Rattle.zarr_codecs_traits.specs.Outcomes.{Encodes, Decodes, DecodesPart};
 ghost use Rattle.zarr_codecs_traits.specs.PartEncoding.{EncodesAsked, takes_patches};
-ghost use Rattle.zarr_codecs_traits.specs.PartWriting.{EncodesInto, IsPlaced, NotEncodedInto, WritesOnce};
+ghost use Rattle.zarr_codecs_traits.specs.PartWriting.{EncodesInto, NotEncodedInto, WritesOnce};
 ghost use Rattle.zarr_codecs_traits.specs.Pieces.{AnswersPiece, AreMade, IsStoppedBy, SplitsArray, SplitsPart, SplitsValue, refused_splitting};
 ghost use Rattle.zarr_codecs_traits.specs.ReadBytes.{most_read};
 ghost use Rattle.zarr_codecs_traits.specs.Representations.{RepresentsArray};
+ghost use Rattle.zarr_codecs_traits.specs.ShardWrites.{GivesWriting, LeavesParts};
 ghost use Rattle.zarr_codecs_traits.specs.Sources.{CountsRead, refused_after};
 ghost use Rattle.zarr_codecs_traits.specs.Targets.{IsDecodedInto, NotDecodedInto};
 ghost use Rattle.zarr_codecs_traits.specs.declared.pieces.ArrayPieces.{ArrayPieces};
@@ -183,8 +184,8 @@ pub trait ArrayToBytesCodecTraits: Sized + Drop {
             (asked_of part.entry.indexer) result }
         ensures refused { D.refused_calls source.new ≡
             refused_after (D.refused_calls source.old) result }
-        ensures given { is_plain (meaning self.now) ≡ true → IsTrue (D.is_honest source.old) →
-            D.given_bytes source.new ≤ D.given_bytes source.old + most_read (meaning self.now)
+        ensures given { IsTrue (D.is_honest source.old) → D.given_bytes source.new
+            ≤ D.given_bytes source.old + most_read (meaning self.now)
             (elements_of part.entry.elements.now).type part.entry.shape.now
             (D.contents source.old) (asked_of part.entry.indexer) }
         ensures follows { D.follows source.old source.new };
@@ -200,8 +201,9 @@ pub trait ArrayToBytesCodecTraits: Sized + Drop {
         ensures ok { IsTrue (E.is_honest source.old) → OnOk result (EncodesInto
             (coded_part (meaning self.now) part.entry) (is_function self.now)
             (update_part part.entry bytes (E.contents source.old)) (E.contents source.new)) }
-        ensures placed { IsTrue (E.is_honest source.old) → OnOk result
-            (IsPlaced (meaning self.now) part.entry.shape.now (E.contents source.old)) }
+        ensures parts { IsTrue (E.is_honest source.old) → OnOk result (LeavesParts
+            (coded_part (meaning self.now) part.entry)
+            (update_part part.entry bytes (E.contents source.old)) (E.contents source.new)) }
         ensures err { IsTrue (E.is_honest source.old) →
             OnErr result (E.contents source.new ≡ E.contents source.old) }
         ensures cause { IsTrue (E.is_honest source.old) → NotEncodedInto
@@ -211,6 +213,10 @@ pub trait ArrayToBytesCodecTraits: Sized + Drop {
             refused_after (E.refused_calls source.old) result }
         ensures once { WritesOnce (E.accepted_writes source.old) (E.accepted_writes source.new)
             result }
+        ensures given { IsTrue (E.is_honest source.old) → IsTrue (E.writes_ranges source.old) →
+            GivesWriting (coded_part (meaning self.now) part.entry)
+            (update_part part.entry bytes (E.contents source.old)) (E.given_bytes source.old)
+            (E.given_bytes source.new) }
         ensures rewrites { E.rewrites source.old source.new };
 
     /// What `compact` answers, with no thread started.
@@ -260,8 +266,8 @@ pub trait ArrayToBytesCodecTraits: Sized + Drop {
             (asked_of part.entry.indexer) result }
         ensures refused { D.refused_calls source.new ≡
             refused_splitting (D.refused_calls source.old) result }
-        ensures given { is_plain (meaning self.now) ≡ true → IsTrue (D.is_honest source.old) →
-            D.given_bytes source.new ≤ D.given_bytes source.old + most_read (meaning self.now)
+        ensures given { IsTrue (D.is_honest source.old) → D.given_bytes source.new
+            ≤ D.given_bytes source.old + most_read (meaning self.now)
             (elements_of part.entry.elements.now).type part.entry.shape.now
             (D.contents source.old) (asked_of part.entry.indexer) }
         ensures follows { D.follows source.old source.new }
@@ -386,10 +392,10 @@ pub trait ArrayToBytesCodecTraits: Sized + Drop {
         Err(CodecError::Memory)
     }
 
-    /// The bytes that the elements of an array are encoded to. `Fit` where the codec doesn't suit
-    /// the array; `InvalidNumberOfElements`, `Expected..` or `CellOutOfRange` where these are not
-    /// its elements; `Codec` where the caller's codec refuses; `Size` where an offset, a length or
-    /// the array itself is too large.
+    /// The bytes that the elements of an array are encoded to, without gaps. `Fit` where the codec
+    /// doesn't suit the array; `InvalidNumberOfElements`, `Expected..` or `CellOutOfRange` where
+    /// these are not its elements; `Codec` where the caller's codec refuses what it is asked to
+    /// encode; `Size` where an offset, a length or the array itself is too large.
     final fn encode<R: Threads + Sync>(
         &self,
         rt: &R,
@@ -454,8 +460,8 @@ pub trait ArrayToBytesCodecTraits: Sized + Drop {
 
     /// The elements at the places that are asked for, in their order; fill values where the source
     /// holds no value. Errors as those of `decode`, and `IncompatibleIndexer` where a place isn't
-    /// the array's, `Source` where the source refuses. Only what is asked for has to be decoded. A
-    /// codec without shards reads no more bytes than `most_read` says.
+    /// the array's, `Source` where the source refuses. Only what is asked for has to be decoded,
+    /// and no more bytes are read than `most_read` says.
     final fn partial_decode<R: Threads + Sync, D: BytesPartialDecoderTraits>(
         &self,
         rt: &R,
@@ -471,8 +477,8 @@ pub trait ArrayToBytesCodecTraits: Sized + Drop {
             (asked_of part.entry.indexer) result }
         ensures refused { CountsRead (D.refused_calls source.old) result
             (D.refused_calls source.new) }
-        ensures given { is_plain (meaning self.now) ≡ true → IsTrue (D.is_honest source.old) →
-            D.given_bytes source.new ≤ D.given_bytes source.old + most_read (meaning self.now)
+        ensures given { IsTrue (D.is_honest source.old) → D.given_bytes source.new
+            ≤ D.given_bytes source.old + most_read (meaning self.now)
             (elements_of part.entry.elements.now).type part.entry.shape.now
             (D.contents source.old) (asked_of part.entry.indexer) }
         ensures follows { D.follows source.old source.new }
@@ -480,10 +486,10 @@ pub trait ArrayToBytesCodecTraits: Sized + Drop {
         part_by(self, rt, alloc, source, part, options)
     }
 
-    /// Puts elements at the places that are asked for, in their order, by at most one writing call.
-    /// A shard that is all fill then is taken away. Errors as those of `encode` and
-    /// `partial_decode`: `Damage` where the value that was there stops the write, `Size` also
-    /// where the new one would be too long. A refusal changes nothing.
+    /// Puts elements at the places asked for, in their order, by at most one writing call. A
+    /// shard's slices are appended; a shard that is all fill then is taken away. Errors as those of
+    /// `encode` and `partial_decode`: `Damage` where the value stops the write, `Size` also where
+    /// the new one would be too long. A refusal changes nothing.
     final fn partial_encode<R: Threads + Sync, E: BytesPartialEncoderTraits>(
         &self,
         rt: &R,
@@ -497,8 +503,9 @@ pub trait ArrayToBytesCodecTraits: Sized + Drop {
         ensures ok { IsTrue (E.is_honest source.old) → OnOk result (EncodesInto
             (coded_part (meaning self.now) given.entry.part) (is_function self.now)
             (update_given given.entry (E.contents source.old)) (E.contents source.new)) }
-        ensures placed { IsTrue (E.is_honest source.old) → OnOk result
-            (IsPlaced (meaning self.now) given.entry.part.shape.now (E.contents source.old)) }
+        ensures parts { IsTrue (E.is_honest source.old) → OnOk result (LeavesParts
+            (coded_part (meaning self.now) given.entry.part)
+            (update_given given.entry (E.contents source.old)) (E.contents source.new)) }
         ensures err { IsTrue (E.is_honest source.old) →
             OnErr result (E.contents source.new ≡ E.contents source.old) }
         ensures cause { IsTrue (E.is_honest source.old) → NotEncodedInto
@@ -508,6 +515,10 @@ pub trait ArrayToBytesCodecTraits: Sized + Drop {
             refused_after (E.refused_calls source.old) result }
         ensures once { WritesOnce (E.accepted_writes source.old) (E.accepted_writes source.new)
             result }
+        ensures given { IsTrue (E.is_honest source.old) → IsTrue (E.writes_ranges source.old) →
+            GivesWriting (coded_part (meaning self.now) given.entry.part)
+            (update_given given.entry (E.contents source.old)) (E.given_bytes source.old)
+            (E.given_bytes source.new) }
         ensures rewrites { E.rewrites source.old source.new }
     {
         let GivenPart { bytes, part } = given;

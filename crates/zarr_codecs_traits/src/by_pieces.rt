@@ -1,6 +1,5 @@
 //! Values and arrays decoded and encoded piece by piece.
-ghost use Rattle.std.specs.Prelude.{◌≡◌, ◌≤◌, ◌+◌, ◌<◌, IfOk, IsTrue, length, true};
-ghost use Rattle.zarr_codecs_meaning.specs.Fits.{is_plain};
+ghost use Rattle.std.specs.Prelude.{◌≡◌, ◌≤◌, ◌+◌, ◌<◌, IfOk, IsTrue, length};
 ghost use Rattle.zarr_codecs_arrays.specs.Views.{elements_of, payload_of};
 ghost use Rattle.zarr_codecs_traits.specs.Arrays.{coded_array, coded_part};
 ghost use Rattle.zarr_codecs_traits.specs.Indexers.{asked_of};
@@ -89,8 +88,8 @@ pub fn part_by<C: ArrayToBytesCodecTraits + Sync, R: Threads + Sync, D: BytesPar
         (asked_of part.entry.indexer) result }
     ensures refused { CountsRead (D.refused_calls source.old) result
         (D.refused_calls source.new) }
-    ensures given { is_plain (C.meaning codec.now) ≡ true → IsTrue (D.is_honest source.old) →
-        D.given_bytes source.new ≤ D.given_bytes source.old + most_read (C.meaning codec.now)
+    ensures given { IsTrue (D.is_honest source.old) → D.given_bytes source.new
+        ≤ D.given_bytes source.old + most_read (C.meaning codec.now)
         (elements_of part.entry.elements.now).type part.entry.shape.now
         (D.contents source.old) (asked_of part.entry.indexer) }
     ensures follows { D.follows source.old source.new }

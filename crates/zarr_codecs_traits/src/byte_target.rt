@@ -80,6 +80,8 @@ pub trait BytesPartialEncoderTraits: BytesPartialDecoderTraits {
 
     ghost unwritten: { (a b : Self) → Self.follows a b → accepted_writes a ≡ accepted_writes b };
 
+    ghost still_ranges: { (a b : Self) → rewrites a b → writes_ranges a ≡ writes_ranges b };
+
     ghost still_honest: { (a b : Self) → rewrites a b → Self.is_honest a ≡ Self.is_honest b };
 
     ghost writes_on: { (a b c : Self) → rewrites a b → rewrites b c → rewrites a c };

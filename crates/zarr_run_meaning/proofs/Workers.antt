@@ -41,7 +41,7 @@ lacks_room workers w box stored l = record {
   fit = l.fit;
   into = l.into;
   undecoded = l.undecoded;
-  passes = λ lossless. let p = l.passes lossless in (p.0, becomes workers w box stored p.0 p.1, p.2);
+  passes = (l.passes.0, becomes workers w box stored l.passes.0 l.passes.1, l.passes.2);
 }
 
 codec_refused : (workers : Bool) (w : Write) (box : Region) (stored : Option (List ℕ)) → IsCodecRefused w box stored → IsCodecRefused (worked workers w) box stored

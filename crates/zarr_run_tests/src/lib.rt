@@ -1,5 +1,6 @@
 //! Tests of `zarr_run` that need code: typed commands, streams that fail, what a line says that no
-//! answer shows, and that workers are several threads. Whole sessions are in the stories.
+//! answer shows, and want of memory in a thread. Whole sessions are in the stories; that workers are
+//! several threads is in `zarr_workers_tests`.
 #![tactic(auto)]
 
 #[cfg(test)]
@@ -13,12 +14,8 @@ mod samples;
 #[cfg(test)]
 mod sessions;
 #[cfg(test)]
-mod shards;
-#[cfg(test)]
 mod streams;
 #[cfg(test)]
 mod test_store;
-#[cfg(test)]
-mod waiting_codec;
 #[cfg(test)]
 mod workers;

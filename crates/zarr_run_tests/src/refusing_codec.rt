@@ -6,7 +6,8 @@ use zarr_run::{
     BytesRepresentation, BytesToBytesCodecTraits, CodecError, MetadataV3, PluginCreateError,
 };
 
-/// The codec `x-refuse`: it leaves bytes as they are, and refuses the bytes 7, 8.
+/// The codec `x-refuse`: it leaves bytes as they are, and refuses the bytes 7, 8. To decode the bytes
+/// 9, 9 it has no memory.
 #[derive(Debug, Drop)]
 pub(crate) struct RefusingCodec;
 
@@ -36,6 +37,9 @@ impl BytesToBytesCodecTraits for RefusingCodec {
     fn decode(&self, alloc: Global, bytes: &[u8]) -> Result<Vec<u8>, CodecError> {
         if is_refused(bytes) {
             return Err(CodecError::Damage);
+        }
+        if bytes == [9, 9].as_slice() {
+            return Err(CodecError::Memory);
         }
         Ok(bytes.to_vec(alloc)?)
     }

@@ -1,78 +1,11 @@
-//! Boxes read with workers: by several threads, with the answers that are given without them.
+//! Which lines are read with workers, and a read in one of whose threads memory runs out.
 
+use crate::refusing_codec::RefusingCodec;
 use crate::samples::{DONE, REOPEN, WRITE, has, has_keys, put, talks};
 use crate::test_store::TestStore;
-use crate::waiting_codec::WaitingCodec;
-use serde_json::Value;
 use std::alloc::{AllocError, Global};
 use std::thread::Threads;
-use zarr_array_core::{ArrayCore, ChunkRooms};
-use zarr_array_metadata::{ArrayDocument, read_document};
-use zarr_codecs::{ArrayToBytesCodec, BytesCodec, CodecChain};
-use zarr_grids_keys::NodePath;
-use zarr_run::{
-    ArrayBytes, ArraySubset, Cause, CodecOptions, CommandCells, MemoryStore, ReverseCodec, Session,
-    run_lines,
-};
-use zarr_run_boxes::{CellWrite, read_box, write_box};
-
-/// An array of 8,192 cells, each in a chunk of its own.
-const DOCUMENT: &str =
-    r#"{"zarr_format":3,"node_type":"array","shape":[8192],"data_type":"uint8","chunk_grid":{"name":"regular","configuration":{"chunk_shape":[1]}},"chunk_key_encoding":"default","fill_value":0,"codecs":["bytes"]}"#;
-
-/// The array, with codecs whose decoding waits for so many turns at most.
-fn waiting_array(alloc: Global, turns: u64) -> Option<ArrayCore<CodecChain<WaitingCodec>>> {
-    let path = NodePath::new(String::from_str(alloc, "/a").ok()?).ok()?;
-    let tree = Value::from_str(alloc, DOCUMENT).ok()?;
-    let document = read_document::<ReverseCodec>(alloc, &tree).ok()?;
-    let ArrayDocument {
-        grid,
-        keys,
-        elements,
-        ..
-    } = document;
-    let waiting = vec![in alloc; WaitingCodec::new(0, turns)].ok()?;
-    let bytes = ArrayToBytesCodec::Bytes(BytesCodec::new(None));
-    let codecs = CodecChain::new(Vec::new(alloc), bytes, waiting);
-    Some(ArrayCore::new(path, grid, keys, elements, codecs))
-}
-
-/// Writes 1 into each cell, and reads all with these options.
-fn read_ones<R: AllocGlobal + Threads + Sync>(
-    rt: &R,
-    turns: u64,
-    workers: bool,
-) -> Option<Result<ArrayBytes, Cause>> {
-    let alloc = rt.alloc();
-    let array = waiting_array(alloc, turns)?;
-    let (mut store, mut rooms) = (MemoryStore::new(alloc), ChunkRooms::new(alloc));
-    let region = ArraySubset::new_with_ranges(alloc, &[0..8192]).ok()?;
-    let options = &CodecOptions::default().with_workers(workers);
-    let cells = &CommandCells::Bytes(ArrayBytes::Fixed(vec![in alloc; 1u8; 8192].ok()?));
-    let write = CellWrite { cells, options };
-    write_box(rt, &mut rooms, &array, &mut store, &region, write).ok()?;
-    Some(read_box(rt, &mut rooms, &array, &mut store, &region, options))
-}
-
-/// Whether these are 8,192 cells, each 1.
-fn are_ones(read: &ArrayBytes) -> bool {
-    match read {
-        ArrayBytes::Fixed(bytes) => bytes.len() == 8192 && bytes.iter().all(|byte| *byte == 1),
-        _ => false,
-    }
-}
-
-#[test]
-fn chunks_are_decoded_by_several_threads(rt: HostRuntime) {
-    let found = read_ones(&rt, 1 << 26, true);
-    assert!(rt; matches!(&found, Some(Ok(read)) if are_ones(read)));
-}
-
-#[test]
-fn without_workers_chunks_are_decoded_one_after_another(rt: HostRuntime) {
-    let found = read_ones(&rt, 1 << 10, false);
-    assert!(rt; matches!(found, Some(Err(Cause::Memory))));
-}
+use zarr_run::{MemoryStore, ReverseCodec, Session, run_lines};
 
 /// Makes an array in four chunks, whose values have to be decoded.
 const CREATE: &str =
@@ -182,7 +115,7 @@ fn a_line_that_does_not_say_workers_has_those_of_the_program(rt: HostRuntime) {
 /// other cells are written there.
 const SHORT: [(&str, &str); 6] = [
     (
-        r#"{"op":"create","path":"/a","document":{"zarr_format":3,"node_type":"array","shape":[6],"data_type":"uint8","chunk_grid":{"name":"regular","configuration":{"chunk_shape":[2]}},"chunk_key_encoding":"default","fill_value":0,"codecs":["bytes","x-wait"]}}"#,
+        r#"{"op":"create","path":"/a","document":{"zarr_format":3,"node_type":"array","shape":[6],"data_type":"uint8","chunk_grid":{"name":"regular","configuration":{"chunk_shape":[2]}},"chunk_key_encoding":"default","fill_value":0,"codecs":["bytes","x-refuse"]}}"#,
         DONE,
     ),
     (
@@ -211,7 +144,7 @@ const SHORT: [(&str, &str); 6] = [
 fn stays<R: AllocGlobal + Threads + Sync>(rt: &R) -> Result<bool, AllocError> {
     let alloc = rt.alloc();
     let store = MemoryStore::new(alloc);
-    let mut session: Session<MemoryStore, WaitingCodec> = Session::new(alloc, store);
+    let mut session: Session<MemoryStore, RefusingCodec> = Session::new(alloc, store);
     let is_answered = talks(rt, &mut session, &SHORT)?;
     let mut store = session.close();
     Ok(is_answered && has_keys(&mut store, 4) && has(alloc, &mut store, "a/c/0", &[1, 2]))

@@ -1,11 +1,11 @@
 -- What the chain of an array stands for.
-use Rattle.std.specs.Prelude.{List, [], ◌∷◌, Bool, true}
+use Rattle.std.specs.Prelude.{◌≡◌, List, [], ◌∷◌, Bool, true}
 use Rattle.zarr_codecs_meaning.specs.Chains.{ByteCodec, Chain}
 use Rattle.zarr_codecs_meaning.specs.Laws.{IsLawful, IsLawfulChain}
 use Rattle.zarr_codecs_options.specs.declared.subchunk_write_order.SubchunkWriteOrder.{SubchunkWriteOrder}
 use Rattle.zarr_codecs_chains.specs.Views.{lawful_of, meaning_of}
 use Rattle.zarr_sharding_codec.specs.Views.{inner_of, order_of}
-use Rattle.zarr_sharding_arrays.specs.Views.{shard_of, sharded_function, sharded_lawful, sharded_meaning}
+use Rattle.zarr_sharding_arrays.specs.Views.{HaveSameCodecs, shard_of, sharded_function, sharded_lawful, sharded_meaning}
 use Rattle.zarr_sharding_arrays.specs.declared.array_chain.ArrayChain.{ArrayChain}
 use Rattle.zarr_sharding_arrays.specs.declared.array_chain.ArrayChain.TheVariants.{Plain, Sharded, Nested}
 
@@ -32,3 +32,10 @@ abbrev pub array_orders : {B : Type 0} → ArrayChain B → List SubchunkWriteOr
 array_orders (Plain chain) = []
 array_orders (Sharded chain) = order_of (shard_of chain) ∷ []
 array_orders (Nested chain) = order_of (shard_of chain) ∷ (order_of (shard_of (inner_of (shard_of chain))) ∷ [])
+
+-- two chains have the same codecs, each under the name that it keeps: of their shards the orders of writing alone may differ
+abbrev pub array_same_codecs : {B : Type 0} → ArrayChain B → ArrayChain B → Type 0
+array_same_codecs (Plain chain) (Plain other) = other ≡ chain
+array_same_codecs (Sharded chain) (Sharded other) = HaveSameCodecs (λ inner same. same ≡ inner) chain other
+array_same_codecs (Nested chain) (Nested other) = HaveSameCodecs (HaveSameCodecs (λ inner same. same ≡ inner)) chain other
+array_same_codecs chain other = ⊥

@@ -51,3 +51,10 @@ pub record IsShardedCopy {B I : Type 0} (inner : I → I → Type 0) (bytes : B 
   pub index : (described : B → ExtensionPoint) → WritesAlike bytes described → points_of described (index_of (shard_of copy)) ≡ points_of described (index_of (shard_of chain))
   pub order : order_of (shard_of copy) ≡ order_of (shard_of chain)
   pub others : AreWrittenAlike bytes (bytes_of chain) (bytes_of copy)
+
+-- chains around shards have the same codecs, each under the name that it keeps: those of the subchunks have, by this, and all others are the same
+pub record HaveSameCodecs {B I : Type 0} (inner : I → I → Type 0) (chain other : ShardedChain B I) : Type 0 where
+  pub arrays : arrays_of other ≡ arrays_of chain
+  pub subchunks : inner (inner_of (shard_of chain)) (inner_of (shard_of other))
+  pub index : index_of (shard_of other) ≡ index_of (shard_of chain)
+  pub others : bytes_of other ≡ bytes_of chain

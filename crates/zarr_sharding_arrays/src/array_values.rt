@@ -312,11 +312,13 @@ impl<B: BytesToBytesCodecTraits> ArrayToBytesCodecTraits for ArrayChain<B> {
 
 impl<B: BytesToBytesCodecTraits> TakesShardingOptions for ArrayChain<B> {
     ghost use Rattle.std.specs.Prelude.{true};
-    ghost use Rattle.zarr_sharding_arrays.specs.ArrayChains.{array_orders};
+    ghost use Rattle.zarr_sharding_arrays.specs.ArrayChains.{array_orders, array_same_codecs};
 
     ghost orders = { array_orders };
 
     ghost can_be_exact = { λ _. true };
+
+    ghost same_codecs = { array_same_codecs };
 
     fn with_codec_specific_options(self, options: ShardingCodecOptions) -> ArrayChain<B> {
         match self {

@@ -72,11 +72,13 @@ impl<B: BytesToBytesCodecTraits, I: InnerCodec + TakesShardingOptions> TakesShar
     for ShardedChain<B, I> {
     ghost use Rattle.std.specs.Prelude.{◌∷◌};
     ghost use Rattle.zarr_sharding_codec.specs.Views.{inner_of, order_of};
-    ghost use Rattle.zarr_sharding_arrays.specs.Views.{shard_of};
+    ghost use Rattle.zarr_sharding_arrays.specs.Views.{HaveSameCodecs, shard_of};
 
     ghost orders = { λ chain. order_of (shard_of chain) ∷ I.orders (inner_of (shard_of chain)) };
 
     ghost can_be_exact = { λ chain. I.can_be_exact (inner_of (shard_of chain)) };
+
+    ghost same_codecs = { λ chain other. HaveSameCodecs I.same_codecs chain other };
 
     fn with_codec_specific_options(self, options: ShardingCodecOptions) -> Self {
         let ShardedChain {

@@ -1,9 +1,8 @@
 -- What is read of a shard by what is known of it.
-use Rattle.std.proofs.Common.{◌≡◌, ◌∙◌, ℕ, ◌*◌, List, [], ◌∷◌, length, map, get_or, replicate, ap, sym, arith, refl, true, Option, None, Some, option_and_then, option_map, unwrap_or, Result, Ok, Err}
+use Rattle.std.proofs.Common.{◌≡◌, ◌∙◌, ℕ, ◌*◌, List, [], ◌∷◌, length, map, get_or, ap, sym, refl, true, Option, None, Some, option_and_then, option_map, unwrap_or, Result, Ok, Err}
 use Rattle.std.specs.Prelude.{nat_lt}
 use Rattle.std.specs.List.{list_all}
 use Rattle.std.proofs.lemmas.Bool.{and_parts, ltb-true}
-use Rattle.std.proofs.lemmas.List.{length-replicate}
 use Rattle.zarr_grids_boxes.specs.Boxes.{product}
 use Rattle.zarr_codecs_arrays.specs.declared.array_bytes.ArrayBytes.{ArrayBytes}
 use Rattle.zarr_codecs_arrays.specs.declared.error.CodecError.{CodecError}
@@ -11,7 +10,7 @@ use Rattle.zarr_codecs_arrays.specs.declared.error.CodecError.TheVariants as err
 use Rattle.zarr_codecs_meaning.specs.Chains.{Chain}
 use Rattle.zarr_codecs_meaning.specs.Encoding.{Pair, absent_pair}
 use Rattle.zarr_codecs_meaning.specs.Fits.{can_cut, fits}
-use Rattle.zarr_codecs_meaning.specs.Places.{index_shape, parts_of}
+use Rattle.zarr_codecs_meaning.specs.Places.{parts_of}
 use Rattle.zarr_codecs_meaning.specs.Types.{Cell, Elements}
 use Rattle.zarr_codecs_meaning.proofs.Fitting.{fitted}
 use Rattle.zarr_codecs_meaning.proofs.Parts.{index_product}

@@ -2,3 +2,4 @@ pub mod Tables
 pub mod Puts
 pub mod Opening
 pub mod Views
+pub mod Calls

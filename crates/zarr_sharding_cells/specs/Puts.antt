@@ -1,5 +1,5 @@
 -- What putting new cells at places of an array makes of its shard.
-use Rattle.std.specs.Prelude.{◌≡◌, ◌⊎◌, ℕ, ◌+◌, ◌^◌, ◌<◌, ◌≤◌, List, [], ◌∷◌, length, map, get_or, Bool, Option, None, Some, unwrap_or, true, false}
+use Rattle.std.specs.Prelude.{◌≡◌, ◌⊎◌, ℕ, ◌+◌, ◌^◌, ◌<◌, ◌≤◌, List, [], ◌∷◌, length, map, get_or, Bool, Option, None, Some, unwrap_or, true, false, IfErr, OnOk, Result}
 use Rattle.zarr_codecs_arrays.specs.Outcomes.{IsInvalid, IsValid}
 use Rattle.zarr_codecs_arrays.specs.declared.error.CodecError.{CodecError}
 use Rattle.zarr_codecs_arrays.specs.declared.error.CodecError.TheVariants as error
@@ -51,6 +51,19 @@ pub record IsWritten (s : ShardOf) (exact one : Bool) (new_cells : Put) (old new
   pub room : old.end + length (appended changes) < 2 ^ 63
   pub pairs : new.pairs ≡ pairs_after old.end changes old.pairs
   pub written : IsChanged s.index one s.location (index_shape s.shape s.subchunk) changes old.end new.pairs old.contents new.contents new.end
+
+-- elements that are to be put at the places of a shard's array that are asked for; it is told whether what the codecs of its subchunks, and those of its index, make depends on what they are given alone
+pub record Putting : Type 0 where
+  pub shard : ShardOf
+  pub exact : Bool
+  pub one : Bool
+  pub asked : Asked
+  pub payload : Payload
+
+-- what a call writes where the elements are valid ones, one for each place
+abbrev pub WritesValid : {A : Type 0} → Putting → Held → Held → Result A CodecError → Type 0
+WritesValid put old new result =
+    (cells : List Cell) → IsValid put.shard.elements.type put.payload (length (numbers_asked put.shard.shape put.asked)) cells → OnOk result (IsWritten put.shard put.exact put.one (put_of put.shard put.asked cells) old new)
 
 -- a subchunk has a slice in what is stored, or it is absent
 abbrev pub HasSlice : Option (List ℕ) → Pair → Option (List ℕ) → Type 0
@@ -106,6 +119,11 @@ NotWritten s exact new_cells held error.Size =
 NotWritten s exact new_cells held error.Source = Unit {0}
 NotWritten s exact new_cells held error.Memory = Unit {0}
 NotWritten s exact new_cells held e = ⊥
+
+-- why a call doesn't write elements that are valid ones, one for each place
+abbrev pub ValidNotWritten : {A : Type 0} → Putting → Held → Result A CodecError → Type 0
+ValidNotWritten put held result =
+    (cells : List Cell) → IsValid put.shard.elements.type put.payload (length (numbers_asked put.shard.shape put.asked)) cells → IfErr result (NotWritten put.shard put.exact (put_of put.shard put.asked cells) held)
 
 -- why new cells are not put at the places that are asked for
 abbrev pub NotPutInto : ShardOf → Bool → Asked → Payload → Held → CodecError → Type 0

@@ -8,9 +8,9 @@ ghost use Rattle.zarr_codecs_traits.specs.Sources.{refused_after};
 ghost use Rattle.zarr_grids_boxes.specs.Boxes.{product};
 ghost use Rattle.zarr_sharding_cells.specs.Opening.{NotOpened};
 ghost use Rattle.zarr_sharding_cells.specs.Tables.{IsTold, held_as};
+ghost use Rattle.zarr_sharding_cells.specs.Views.{shard_for};
 ghost use Rattle.zarr_sharding_codec.specs.Views.{index_of, shard_chain, subchunk_of};
 ghost use Rattle.zarr_sharding_decoder.specs.Pairs.{index_length};
-ghost use Rattle.zarr_sharding_decoder.specs.Views.{shard_in};
 ghost use Rattle.zarr_sharding_state.specs.States.{end_of, pairs_in};
 
 use crate::state::ShardState;
@@ -40,12 +40,10 @@ impl<
     E: BytesPartialEncoderTraits,
 > ShardState<'a, I, X, E> {
     ghost use Rattle.std.specs.Prelude.{◌≡◌, ◌≤◌, ◌+◌, IfErr, IfOk, IsTrue};
-    ghost use Rattle.zarr_codecs_arrays.specs.Views.{elements_of};
     ghost use Rattle.zarr_sharding_cells.specs.Opening.{NotOpened, refused_by};
     ghost use Rattle.zarr_sharding_cells.specs.Tables.{IsTold};
-    ghost use Rattle.zarr_sharding_cells.specs.Views.{codec_of, held_of, shard_of, source_of};
+    ghost use Rattle.zarr_sharding_cells.specs.Views.{codec_of, held_of, shard_for, shard_of, source_of};
     ghost use Rattle.zarr_sharding_decoder.specs.Pairs.{index_length};
-    ghost use Rattle.zarr_sharding_decoder.specs.Views.{shard_in};
 
     /// The shard of an array that a source holds, or none; of the value the index alone is read,
     /// and nothing is written. An error comes with the source: `Fit` where the codec doesn't suit
@@ -58,24 +56,21 @@ impl<
         source: E,
         array: WholeArray<'a>,
     ) -> Result<ShardState<'a, I, X, E>, (E, CodecError)>
-        ensures shard { IfOk result (λ state. shard_of I.meaning X.meaning state ≡ shard_in
-            I.meaning X.meaning codec.now (elements_of array.entry.elements.now)
-            array.entry.shape.now) }
+        ensures shard { IfOk result (λ state. shard_of I.meaning X.meaning state
+            ≡ shard_for I.meaning X.meaning codec.now array.entry) }
         ensures codec { IfOk result (λ state. codec_of state ≡ codec.now) }
         ensures told { IsTrue (E.is_honest source) → IfOk result (λ state. IsTold
             (shard_of I.meaning X.meaning state) (held_of E.contents state)) }
         ensures follows { IfOk result (λ state. E.follows source (source_of state)) }
         ensures given_back { IfErr result (λ refused. E.follows source refused.0) }
         ensures cause { IsTrue (E.is_honest source) → IfErr result (λ refused. NotOpened
-            (shard_in I.meaning X.meaning codec.now (elements_of array.entry.elements.now)
-            array.entry.shape.now) (E.contents source) refused.1) }
+            (shard_for I.meaning X.meaning codec.now array.entry) (E.contents source) refused.1) }
         ensures given { IsTrue (E.is_honest source) → IfOk result
             (λ state. E.given_bytes (source_of state) ≤ E.given_bytes source
             + index_length (shard_of I.meaning X.meaning state)) }
         ensures given_for_nothing { IsTrue (E.is_honest source) → IfErr result
-            (λ refused. E.given_bytes refused.0 ≤ E.given_bytes source + index_length
-            (shard_in I.meaning X.meaning codec.now (elements_of array.entry.elements.now)
-            array.entry.shape.now)) }
+            (λ refused. E.given_bytes refused.0 ≤ E.given_bytes source
+            + index_length (shard_for I.meaning X.meaning codec.now array.entry)) }
         ensures unrefused { IfOk result
             (λ state. E.refused_calls (source_of state) ≡ E.refused_calls source) }
         ensures refused { IfErr result (λ refused. E.refused_calls refused.0
@@ -115,17 +110,14 @@ fn open_shard<I: ArrayToBytesCodecTraits, X: ArrayToBytesCodecTraits, D: BytesPa
     ensures many { IfOk result (λ opened. product opened.pairs_shape.items
         ≡ 2 * length (pairs_in opened.known)) }
     ensures told { IsTrue (D.is_honest source.old) → IfOk result (λ opened. IsTold
-        (shard_in I.meaning X.meaning codec.now (elements_of array.entry.elements.now)
-        array.entry.shape.now)
+        (shard_for I.meaning X.meaning codec.now array.entry)
         (held_as (D.contents source.old) (pairs_in opened.known) (end_of opened.known))) }
     ensures cause { IsTrue (D.is_honest source.old) → IfErr result (NotOpened
-        (shard_in I.meaning X.meaning codec.now (elements_of array.entry.elements.now)
-        array.entry.shape.now) (D.contents source.old)) }
+        (shard_for I.meaning X.meaning codec.now array.entry) (D.contents source.old)) }
     ensures refused { D.refused_calls source.new ≡
         refused_after (D.refused_calls source.old) result }
-    ensures given { IsTrue (D.is_honest source.old) → D.given_bytes source.new
-        ≤ D.given_bytes source.old + index_length (shard_in I.meaning X.meaning codec.now
-        (elements_of array.entry.elements.now) array.entry.shape.now) }
+    ensures given { IsTrue (D.is_honest source.old) → D.given_bytes source.new ≤ D.given_bytes
+        source.old + index_length (shard_for I.meaning X.meaning codec.now array.entry) }
     ensures follows { D.follows source.old source.new }
 {
     let shape = array.shape;

@@ -17,12 +17,11 @@ impl<
     X: ArrayToBytesCodecTraits + Sync,
     E: BytesPartialEncoderTraits,
 > ShardState<'a, I, X, E> {
-    ghost use Rattle.std.specs.Prelude.{◌≡◌, ◌≤◌, ◌+◌, List, Some, IfErr, IsTrue, OnErr, OnOk};
+    ghost use Rattle.std.specs.Prelude.{◌≤◌, ◌+◌, List, Some, IfErr, IsTrue, OnOk};
     ghost use Rattle.zarr_codecs_arrays.specs.Views.{payload_of};
     ghost use Rattle.zarr_codecs_meaning.specs.Types.{Cell};
     ghost use Rattle.zarr_codecs_traits.specs.Indexers.{asked_of};
-    ghost use Rattle.zarr_codecs_traits.specs.Sources.{refused_after};
-    ghost use Rattle.zarr_codecs_traits.specs.Writes.{accepted_after};
+    ghost use Rattle.zarr_sharding_cells.specs.Calls.{CalledToWrite};
     ghost use Rattle.zarr_sharding_cells.specs.Puts.{IsPutInto, IsRefusedUnwritten, NotPutInto};
     ghost use Rattle.zarr_sharding_cells.specs.Tables.{IsTold};
     ghost use Rattle.zarr_sharding_cells.specs.Views.{codec_of, held_of, known_of, shard_of, source_of};
@@ -56,27 +55,17 @@ impl<
             (I.is_function (inner_of (codec_of self.old)))
             (X.is_function (index_of (codec_of self.old))) (asked_of indexer.entry)
             (payload_of bytes) cells (held_of E.contents self.old) (held_of E.contents self.new)) }
-        ensures err { IsTrue (E.is_honest (source_of self.old)) →
-            OnErr result (held_of E.contents self.new ≡ held_of E.contents self.old) }
-        ensures same { OnErr result (known_of self.new ≡ known_of self.old) }
         ensures cause { IsTrue (E.is_honest (source_of self.old)) → IsTold
             (shard_of I.meaning X.meaning self.old) (held_of E.contents self.old) → IfErr result
             (NotPutInto (shard_of I.meaning X.meaning self.old)
             (I.is_function (inner_of (codec_of self.old))) (asked_of indexer.entry)
             (payload_of bytes) (held_of E.contents self.old)) }
-        ensures refused { E.refused_calls (source_of self.new) ≡
-            refused_after (E.refused_calls (source_of self.old)) result }
         ensures given { IsTrue (E.is_honest (source_of self.old)) → IfErr result (λ error.
             IsRefusedUnwritten error → E.given_bytes (source_of self.new)
             ≤ E.given_bytes (source_of self.old) + slices_met
             (shard_of I.meaning X.meaning self.old) (Some (known_of self.old).0)
             (asked_of indexer.entry)) }
-        ensures accepted { E.accepted_writes (source_of self.new) ≡
-            accepted_after (E.accepted_writes (source_of self.old)) result }
-        ensures rewrites { E.rewrites (source_of self.old) (source_of self.new) }
-        ensures codec { codec_of self.new ≡ codec_of self.old }
-        ensures shard { shard_of I.meaning X.meaning self.new
-            ≡ shard_of I.meaning X.meaning self.old }
+        ensures call { CalledToWrite self.old self.new result }
     {
         let array = WholeArray {
             elements: self.elements,
@@ -95,18 +84,13 @@ impl<
     X: ArrayToBytesCodecTraits,
     E: BytesPartialEncoderTraits,
 > ShardState<'a, I, X, E> {
-    ghost use Rattle.std.specs.Prelude.{◌≡◌, ◌≤◌, ◌+◌, List, Some, length, true, IfErr, IsTrue, OnErr, OnOk};
-    ghost use Rattle.zarr_codecs_arrays.specs.Outcomes.{IsValid};
-    ghost use Rattle.zarr_codecs_arrays.specs.Views.{payload_of};
-    ghost use Rattle.zarr_codecs_meaning.specs.Types.{Cell};
-    ghost use Rattle.zarr_codecs_traits.specs.Indexers.{are_inside, asked_of, numbers_asked};
-    ghost use Rattle.zarr_codecs_traits.specs.Sources.{refused_after};
-    ghost use Rattle.zarr_codecs_traits.specs.Writes.{WriteRefused, accepted_after};
-    ghost use Rattle.zarr_sharding_cells.specs.Puts.{IsRefusedUnwritten, IsWritten, NotWritten};
+    ghost use Rattle.std.specs.Prelude.{◌≡◌, ◌≤◌, ◌+◌, Some, true, IfErr, IsTrue, OnOk};
+    ghost use Rattle.zarr_codecs_traits.specs.Indexers.{are_inside, asked_of};
+    ghost use Rattle.zarr_codecs_traits.specs.Writes.{WriteRefused};
+    ghost use Rattle.zarr_sharding_cells.specs.Calls.{CalledToWrite};
+    ghost use Rattle.zarr_sharding_cells.specs.Puts.{IsRefusedUnwritten, ValidNotWritten, WritesValid};
     ghost use Rattle.zarr_sharding_cells.specs.Tables.{IsErased, IsTold};
-    ghost use Rattle.zarr_sharding_cells.specs.Views.{codec_of, held_of, known_of, shard_of, source_of};
-    ghost use Rattle.zarr_sharding_codec.specs.PartWriting.{put_at};
-    ghost use Rattle.zarr_sharding_codec.specs.Views.{index_of, inner_of};
+    ghost use Rattle.zarr_sharding_cells.specs.Views.{held_of, known_of, putting_of, shard_of, source_of};
     ghost use Rattle.zarr_sharding_decoder.specs.Parts.{slices_met};
 
     /// Puts elements at the places that are asked for, which are the array's. Errors as those of
@@ -120,48 +104,19 @@ impl<
         requires { are_inside (shard_of I.meaning X.meaning self.old).shape (asked_of indexer)
             ≡ true }
         ensures ok { IsTrue (E.is_honest (source_of self.old)) → IsTold
-            (shard_of I.meaning X.meaning self.old) (held_of E.contents self.old)
-            → (cells : List Cell)
-            → IsValid (shard_of I.meaning X.meaning self.old).elements.type (payload_of bytes)
-            (length (numbers_asked (shard_of I.meaning X.meaning self.old).shape
-            (asked_of indexer.entry))) cells → OnOk result
-            (IsWritten (shard_of I.meaning X.meaning self.old)
-            (I.is_function (inner_of (codec_of self.old)))
-            (X.is_function (index_of (codec_of self.old)))
-            (put_at (shard_of I.meaning X.meaning self.old).shape
-            (shard_of I.meaning X.meaning self.old).subchunk
-            (numbers_asked (shard_of I.meaning X.meaning self.old).shape (asked_of indexer.entry))
-            cells)
-            (held_of E.contents self.old) (held_of E.contents self.new)) }
-        ensures err { IsTrue (E.is_honest (source_of self.old)) →
-            OnErr result (held_of E.contents self.new ≡ held_of E.contents self.old) }
-        ensures same { OnErr result (known_of self.new ≡ known_of self.old) }
+            (shard_of I.meaning X.meaning self.old) (held_of E.contents self.old) → WritesValid
+            (putting_of self.old indexer.entry bytes) (held_of E.contents self.old)
+            (held_of E.contents self.new) result }
         ensures cause { IsTrue (E.is_honest (source_of self.old)) → IsTold
             (shard_of I.meaning X.meaning self.old) (held_of E.contents self.old)
-            → (cells : List Cell)
-            → IsValid (shard_of I.meaning X.meaning self.old).elements.type (payload_of bytes)
-            (length (numbers_asked (shard_of I.meaning X.meaning self.old).shape
-            (asked_of indexer.entry))) cells → IfErr result
-            (NotWritten (shard_of I.meaning X.meaning self.old)
-            (I.is_function (inner_of (codec_of self.old)))
-            (put_at (shard_of I.meaning X.meaning self.old).shape
-            (shard_of I.meaning X.meaning self.old).subchunk
-            (numbers_asked (shard_of I.meaning X.meaning self.old).shape (asked_of indexer.entry))
-            cells)
-            (held_of E.contents self.old)) }
-        ensures refused { E.refused_calls (source_of self.new) ≡
-            refused_after (E.refused_calls (source_of self.old)) result }
+            → ValidNotWritten (putting_of self.old indexer.entry bytes)
+            (held_of E.contents self.old) result }
         ensures given { IsTrue (E.is_honest (source_of self.old)) → IfErr result (λ error.
             IsRefusedUnwritten error → E.given_bytes (source_of self.new)
             ≤ E.given_bytes (source_of self.old) + slices_met
             (shard_of I.meaning X.meaning self.old) (Some (known_of self.old).0)
             (asked_of indexer.entry)) }
-        ensures accepted { E.accepted_writes (source_of self.new) ≡
-            accepted_after (E.accepted_writes (source_of self.old)) result }
-        ensures rewrites { E.rewrites (source_of self.old) (source_of self.new) }
-        ensures codec { codec_of self.new ≡ codec_of self.old }
-        ensures shard { shard_of I.meaning X.meaning self.new
-            ≡ shard_of I.meaning X.meaning self.old }
+        ensures call { CalledToWrite self.old self.new result }
     {
         let layout = IndexLayout {
             location: self.codec.index_location(),
@@ -198,18 +153,8 @@ impl<
     pub fn erase(&mut self, alloc: Global) -> Result<(), CodecError>
         ensures ok { IsTrue (E.is_honest (source_of self.old)) → OnOk result (IsErased
             (shard_of I.meaning X.meaning self.old) (held_of E.contents self.new)) }
-        ensures err { IsTrue (E.is_honest (source_of self.old)) →
-            OnErr result (held_of E.contents self.new ≡ held_of E.contents self.old) }
-        ensures same { OnErr result (known_of self.new ≡ known_of self.old) }
         ensures cause { WriteRefused result }
-        ensures refused { E.refused_calls (source_of self.new) ≡
-            refused_after (E.refused_calls (source_of self.old)) result }
-        ensures accepted { E.accepted_writes (source_of self.new) ≡
-            accepted_after (E.accepted_writes (source_of self.old)) result }
-        ensures rewrites { E.rewrites (source_of self.old) (source_of self.new) }
-        ensures codec { codec_of self.new ≡ codec_of self.old }
-        ensures shard { shard_of I.meaning X.meaning self.new
-            ≡ shard_of I.meaning X.meaning self.old }
+        ensures call { CalledToWrite self.old self.new result }
     {
         let layout = IndexLayout {
             location: self.codec.index_location(),

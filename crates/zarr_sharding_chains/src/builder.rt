@@ -35,7 +35,7 @@ impl<B: BytesToBytesCodecTraits> ShardingCodecBuilder<B> {
     ghost use Rattle.zarr_codecs_chains.specs.Configured.{little_bytes};
     ghost use Rattle.zarr_codecs_chains.specs.Views.{codec_chain, meaning_of};
     ghost use Rattle.zarr_sharding_codec.specs.Views.{order_of, shard_chain};
-    ghost use Rattle.zarr_sharding_chains.specs.Builders.{built_chain, default_chain, parts_of};
+    ghost use Rattle.zarr_sharding_chains.specs.Builders.{HasCodecs, built_chain, default_chain, parts_of};
 
     /// A builder of shards of subchunks of this shape, for arrays of a data type. `Err` only where
     /// an allocation failed.
@@ -127,6 +127,7 @@ impl<B: BytesToBytesCodecTraits> ShardingCodecBuilder<B> {
     pub fn build(self) -> ShardingCodec<CodecChain<B>, CodecChain<B>>
         ensures meaning { shard_chain (meaning_of B.meaning) (meaning_of B.meaning) result
             ≡ built_chain B.meaning (parts_of self) }
+        ensures codecs { HasCodecs (parts_of self) result }
         ensures order { order_of result ≡ order.Unordered }
     {
         let ShardingCodecBuilder {
@@ -156,6 +157,7 @@ impl<B: BytesToBytesCodecTraits> ShardingCodecBuilder<B> {
         ensures meaning { IfOk result (λ codec.
             shard_chain (meaning_of B.meaning) (meaning_of B.meaning) (arc_value codec)
             ≡ built_chain B.meaning (parts_of self)) }
+        ensures codecs { IfOk result (λ codec. HasCodecs (parts_of self) (arc_value codec)) }
         ensures order { IfOk result (λ codec. order_of (arc_value codec) ≡ order.Unordered) }
     {
         match Arc::new(alloc, self.build()) {

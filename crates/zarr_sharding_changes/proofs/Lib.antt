@@ -4,3 +4,6 @@ pub mod Overlays
 pub mod Slices
 pub mod Compacting
 pub mod Compactions
+pub mod Gapless
+mod HeldShards
+mod WorkedGapless

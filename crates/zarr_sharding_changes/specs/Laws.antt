@@ -1,18 +1,20 @@
 -- Laws of shards under change. Each is said of slices that stand for their subchunks' cells, and of slices that are what encoding writes.
-use Rattle.std.specs.Prelude.{◌≡◌, ℕ, ◌+◌, ◌-◌, ◌^◌, ◌<◌, List, ◌++◌, length, Some, true, false}
+use Rattle.std.specs.Prelude.{◌≡◌, ℕ, ◌+◌, ◌-◌, ◌^◌, ◌<◌, List, ◌++◌, length, get_or, None, Some, true, false}
 use Rattle.zarr_grids_boxes.specs.Boxes.{Region, product, share_place, IsIndex}
 use Rattle.zarr_codecs_meaning.specs.Types.{Cell, Elements}
 use Rattle.zarr_codecs_meaning.specs.Chains.{Chain, Location}
 use Rattle.zarr_codecs_meaning.specs.Chains.Chain.{sharded}
 use Rattle.zarr_codecs_meaning.specs.Places.{gather, grid_of, box_of, part_of}
-use Rattle.zarr_codecs_meaning.specs.Fits.{fits, can_cut, is_lossless, is_plain}
-use Rattle.zarr_codecs_meaning.specs.Encoding.{Pair, Piece, encoded}
+use Rattle.zarr_codecs_meaning.specs.Fits.{fits, can_cut, is_lossless, is_plain, keeps_indices}
+use Rattle.zarr_codecs_meaning.specs.Encoding.{Pair, Piece, absent_pair, encoded}
 use Rattle.zarr_codecs_meaning.specs.Standing.{Slices, PiecesStand, StandsBy, Tight}
 use Rattle.zarr_codecs_meaning.specs.Laws.{IsLawfulChain, AreCells}
 use Rattle.zarr_sharding_changes.specs.Changes.{Change, appended, pairs_after, pieces_after, SliceStandsBy, ChangesStand}
 use Rattle.zarr_sharding_changes.specs.Regions.{IsInside, whole, overlaid}
 use Rattle.zarr_sharding_changes.specs.Compaction.{compacted}
 use Rattle.zarr_sharding_changes.specs.Compactions.{compaction, nothing_to_gain}
+use Rattle.zarr_sharding_changes.specs.Gapless.{IsGapless}
+use Rattle.zarr_sharding_changes.specs.HeldShards.{HeldShard, held_after}
 
 -- where slices are appended and pairs replaced, the pairs and the longer data part stand for the changed pieces, in whatever order and however often subchunks are changed
 abbrev pub ChangesWritten : Type 0
@@ -53,3 +55,16 @@ CompactedEncoded = (subchunk : List ℕ) (inner index : Chain) (location : Locat
 -- compaction leaves each value of a chain without a shard as it is
 abbrev pub PlainKept : Type 0
 PlainKept = (chain : Chain) (shape value : List ℕ) → is_plain chain ≡ true → compaction chain shape value ≡ nothing_to_gain
+
+-- where some subchunks of a shard got new slices behind its data part, each other one keeps its pair, and the data part that it had is the beginning of the new one, so that its slice stands where it stood
+abbrev pub UnmetKept : Type 0
+UnmetKept = (base k : ℕ) (changes : List Change) (held : HeldShard) → ((i : ℕ) → i < length changes → (get_or changes i (0, None)).0 ≡ k → ⊥) → let after = held_after base changes held in
+    (get_or after.pairs k absent_pair ≡ get_or held.pairs k absent_pair) × ((rest : List ℕ) × (after.content ≡ held.content ++ rest))
+
+-- a value of a chain without a shard has no gaps
+abbrev pub PlainGapless : Type 0
+PlainGapless = (chain : Chain) (shape value : List ℕ) → is_plain chain ≡ true → IsGapless chain shape value
+
+-- compaction leaves a value without gaps as it is, where the chain drops no bit of an index
+abbrev pub GaplessKept : Type 0
+GaplessKept = (chain : Chain) (shape value : List ℕ) → keeps_indices chain ≡ true → IsGapless chain shape value → compaction chain shape value ≡ nothing_to_gain

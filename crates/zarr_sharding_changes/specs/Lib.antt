@@ -5,5 +5,8 @@ pub mod Laws
 pub mod WorkedChanges
 pub mod WorkedCompaction
 pub mod Compactions
+pub mod Gapless
+pub mod HeldShards
 pub mod WorkedCompactions
+pub mod WorkedGapless
 pub mod Refusals

@@ -1,9 +1,10 @@
 //! Worked examples and laws of shards under change. Each function does nothing: its contract is the
 //! law.
-ghost use Rattle.zarr_sharding_changes.specs.Laws.{ChangesWritten, RegionWritten, PartOverlaid, PartKept, CompactedStands, CompactedEncoded, PlainKept};
+ghost use Rattle.zarr_sharding_changes.specs.Laws.{ChangesWritten, RegionWritten, PartOverlaid, PartKept, CompactedStands, CompactedEncoded, GaplessKept, PlainGapless, PlainKept, UnmetKept};
 ghost use Rattle.zarr_sharding_changes.specs.WorkedChanges.{ChangeRows};
 ghost use Rattle.zarr_sharding_changes.specs.WorkedCompaction.{CompactionRows};
 ghost use Rattle.zarr_sharding_changes.specs.WorkedCompactions.{ChainCompactionRows};
+ghost use Rattle.zarr_sharding_changes.specs.WorkedGapless.{GaplessRows, HeldRows};
 
 /// What changes make of pairs, of a data part and of subchunks, and what a region makes of a box.
 pub fn change_rows()
@@ -55,4 +56,29 @@ pub fn chain_compaction_rows()
 /// Compaction leaves each value of a chain without a shard as it is, damaged or not.
 pub fn plain_kept()
     ensures { PlainKept }
+{}
+
+/// A subchunk that a write in part doesn't change keeps its pair and its slice.
+pub fn unmet_kept()
+    ensures { UnmetKept }
+{}
+
+/// Each value of a chain without a shard has no gaps.
+pub fn plain_gapless()
+    ensures { PlainGapless }
+{}
+
+/// Compaction leaves a value without gaps as it is.
+pub fn gapless_kept()
+    ensures { GaplessKept }
+{}
+
+/// Values with gaps and without.
+pub fn gapless_rows()
+    ensures { GaplessRows }
+{}
+
+/// What shards hold, and what appended slices make of that.
+pub fn held_rows()
+    ensures { HeldRows }
 {}

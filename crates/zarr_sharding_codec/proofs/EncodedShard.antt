@@ -1,15 +1,16 @@
 -- A shard made of an array's elements is what encoding them means, and stands for them.
-use Rattle.std.proofs.Common.{◌≡◌, ℕ, ◌+◌, ◌-◌, ◌^◌, ◌<◌, ◌≤◌, List, [], ◌∷◌, length, map, ap, ◌∙◌, sym, arith, refl, subst, inl, inr, Option, Some, None, option_map, option_and_then, if◌then◌else◌, Bool, true, ◌&&◌, Result, Ok, Err, Vec, rules}
+use Rattle.std.proofs.Common.{◌≡◌, ℕ, ◌+◌, ◌-◌, ◌^◌, ◌<◌, List, [], ◌∷◌, length, map, ap, ◌∙◌, sym, arith, refl, subst, inl, inr, Option, Some, None, option_map, option_and_then, if◌then◌else◌, Bool, true, ◌&&◌, Result, Ok, Err, Vec, rules}
 use Rattle.std.specs.declared.alloc.Global.{Global}
 use Rattle.std.proofs.lemmas.Bool.{and_parts, eq-eqb, lt-ltb}
 use Rattle.std.proofs.lemmas.List.{length-map}
 use Rattle.zarr_grids_boxes.specs.Boxes.{product}
-use Rattle.zarr_codecs_meaning.specs.Chains.{BytesRepresentation, Chain, Location, sharded, at_start, at_end, fixed_size, bounded_size, unbounded_size}
+use Rattle.zarr_codecs_meaning.specs.Chains.{BytesRepresentation, Chain, Location, sharded, fixed_size, bounded_size, unbounded_size}
 use Rattle.zarr_codecs_meaning.specs.Encoding.{Piece, base_of, encoded, index_size, joined, joined_slices, pair_cells, pairs_from, piece_of, pieces_of, shard_of, stored_pieces}
 use Rattle.zarr_codecs_meaning.specs.Fits.{bound_of, fits, fixed_of, is_bound_within, is_lossless, is_size_as, representation_of, sum_of_bounds}
 use Rattle.zarr_codecs_meaning.specs.Laws.{IsLawfulChain}
 use Rattle.zarr_codecs_meaning.specs.Payloads.{Payload}
 use Rattle.zarr_codecs_meaning.specs.Places.{Part, index_shape, parts_of}
+use Rattle.zarr_codecs_meaning.specs.Refusals.{IsMadeOf, SlicesMade}
 use Rattle.zarr_codecs_meaning.specs.Standing.{Stands}
 use Rattle.zarr_codecs_meaning.specs.Types.{Cell, Elements, uint64, zero_filled}
 use Rattle.zarr_codecs_meaning.proofs.Bounds.{plus, plus_within, size_at_most, size_within, slices_within}
@@ -24,6 +25,7 @@ use Rattle.zarr_codecs_traits.specs.Outcomes.{Encodes, IsEncoded}
 use Rattle.zarr_sharding_index.specs.Stored.{index_fits}
 use Rattle.zarr_sharding_index.proofs.StoredIndex.{index_below}
 use Rattle.zarr_sharding_codec.proofs.FitParts.{index_fit}
+use Rattle.zarr_sharding_codec.proofs.Gapless.{NoneGaps, assembled_gapless, base_small}
 use Rattle.zarr_sharding_codec.specs.Assembled.{Assembles, IsAssembled}
 use Rattle.zarr_sharding_codec.specs.Slices.{ArePiecesStored, IsSlice, StoresPieces}
 
@@ -41,6 +43,14 @@ stored_many inner exact elements pieces stored are =
     let any = λ (shape slice : List ℕ). λ (cells : List Cell). Unit {0} in
     length-slices any elements.fill pieces stored (slices_stand inner exact elements any pieces stored (λ piece slice is. tt) are)
 
+-- and are made of them
+pub slices_made : (inner : Chain) (exact : Bool) (elements : Elements) (pieces : List Piece) (stored : List (Option (List ℕ))) → ArePiecesStored inner exact elements pieces stored → SlicesMade (IsMadeOf inner elements) elements.fill pieces stored
+slices_made inner exact elements [] [] are = tt
+slices_made inner exact elements [] (s ∷ ss) are = elim are [ ]
+slices_made inner exact elements (p ∷ ps) [] are = elim are [ ]
+slices_made inner exact elements (p ∷ ps) (None ∷ ss) are = (are.0, slices_made inner exact elements ps ss are.1)
+slices_made inner exact elements (p ∷ ps) (Some s ∷ ss) are = ((are.0.some, λ keeps. inr (are.0.stands keeps)), slices_made inner exact elements ps ss are.1)
+
 stored_exactly : (inner : Chain) (exact : Bool) (elements : Elements) (pieces : List Piece) (stored : List (Option (List ℕ))) → exact ≡ true → ArePiecesStored inner exact elements pieces stored → stored_pieces (encoded inner elements) elements.fill pieces ≡ Some stored
 stored_exactly inner exact elements [] [] is are = refl
 stored_exactly inner exact elements [] (s ∷ ss) is are = elim are [ ]
@@ -57,10 +67,6 @@ stored_exactly inner exact elements (p ∷ ps) (Some s ∷ ss) is are =
     ap (λ (b : Bool). next (if b then Some None else option_map Some (encoded inner elements p.0 p.1))) are.0.some
     ∙ (ap (λ (o : Option (List ℕ)). next (option_map Some o)) (are.0.encodes is)
     ∙ ap (λ (o : Option (List (Option (List ℕ)))). option_map (λ (rest : List (Option (List ℕ))). Some s ∷ rest) o) (stored_exactly inner exact elements ps ss is are.1))
-
-pub base_small : (location : Location) (size : ℕ) → base_of location size ≤ size
-base_small at_start size = omega arith
-base_small at_end size = omega arith
 
 -- the index of a shard that fits can be written
 pub index_part : (subchunk : List ℕ) (inner index : Chain) (location : Location) (elements : Elements) (shape : List ℕ) → fits (sharded subchunk inner index location) elements.type shape ≡ true → index_fits index (index_shape shape subchunk) ≡ true
@@ -117,6 +123,7 @@ shard_encoded subchunk inner index location row one two elements shape value pay
           );
       sized = size_at_most (plus within bounds) (length value)
           (subst (λ n. is_bound_within (Some n) (plus within bounds) ≡ true) (sym long) (plus_within (Some (length assembled.index_bytes)) (Some (length slices)) within bounds front back));
+      gapless = assembled_gapless subchunk inner index location two shape elements.fill cells stored value small short assembled (slices_stand inner one elements (NoneGaps inner) pieces stored (λ piece slice is. is.gapless) are);
     }
 
 -- ---- refusals
@@ -153,8 +160,7 @@ assembled_encodes subchunk inner index location row one two elements shape paylo
     let made : IsMade subchunk inner index location elements shape cells = record { inner_lawful = inner_lawful; index_lawful = index_lawful; fit = fit; small = (index_below index (index_shape shape subchunk) (index_part subchunk inner index location elements shape fit)).1 } in
     (cells, shard_encoded subchunk inner index location row one two elements shape value.items payload cells stored made valid are h (search (rules, value.ok, value.small)))
 assembled_encodes subchunk inner index location row one two elements shape payload cells stored (Err error.Codec) inner_lawful index_lawful fit valid are h =
-    let base = base_of location (index_size index (index_shape shape subchunk)) in
-    (cells, record { valid = valid; fit = fit; is = inr (pairs_from base stored, length-pairs_from stored base ∙ slices_many inner one elements shape subchunk cells stored are, h) })
+    (cells, record { valid = valid; fit = fit; is = inr (stored, slices_made inner one elements (pieces_of elements.fill cells (parts_of shape subchunk)) stored are, h) })
 assembled_encodes subchunk inner index location row one two elements shape payload cells stored (Err error.Size) inner_lawful index_lawful fit valid are h =
     let base = base_of location (index_size index (index_shape shape subchunk)) in
     inr (cells, record { valid = valid; fit = fit; is = inr (inr (pairs_from base stored, length-pairs_from stored base ∙ slices_many inner one elements shape subchunk cells stored are, h)) })

@@ -5,8 +5,8 @@ pub mod FitParts
 pub mod TakenStretches
 pub mod StoredParts
 pub mod StoredLoop
-pub mod EncodedShard
 pub mod Gapless
+pub mod EncodedShard
 pub mod DecodedShard
 pub mod ClosedValues
 pub mod LocatedParts
@@ -23,14 +23,19 @@ pub mod PartShown
 pub mod ChangedPairs
 pub mod PartHolds
 pub mod PartIntact
+pub mod MetParts
+pub mod MostTaken
 pub mod GroupWritten
 pub mod SoFarWritten
 pub mod PartFill
 pub mod PartStands
 pub mod PartKept
 pub mod PartPlaced
+pub mod PartAfter
+pub mod AppendedShard
 pub mod PartWritten
 pub mod ChangedSlices
+pub mod Appended
 pub mod PartLength
 pub mod PartAppended
 pub mod GivenSoFar
@@ -48,6 +53,7 @@ mod PutSlices
 mod PartFound
 mod SlicesRead
 mod PlacesCut
+mod GivenCuts
 mod CutValues
 mod CutArrays
 mod DecodedSlice

@@ -44,12 +44,12 @@ lost_part inner value numbers (part ∷ parts) (pair ∷ pairs) (inr lost) =
     let low_pair = rest.pair in record { k = suc rest.k; part = omega (arith, low); pair = omega (arith, low_pair); met = rest.met; there = rest.there; lost = rest.lost }
 
 -- one of the places that lie in a subchunk
-record IsMetBy (numbers : List ℕ) (part : Part) : Type 0 where
+pub record IsMetBy (numbers : List ℕ) (part : Part) : Type 0 where
   pub at_ : ℕ
   pub below : at_ < length numbers
   pub inside : nat_lt (position_of (get_or numbers at_ 0) part.places) (length part.places) ≡ true
 
-met_by : (numbers : List ℕ) (part : Part) → is_met numbers part ≡ true → IsMetBy numbers part
+pub met_by : (numbers : List ℕ) (part : Part) → is_met numbers part ≡ true → IsMetBy numbers part
 met_by [] part met = absurd (cc)
 met_by (n ∷ ns) part met = by_test (nat_lt (position_of n part.places) (length part.places)) refl (λ rest. met_by ns part rest) met where
   by_test : (b : Bool) → nat_lt (position_of n part.places) (length part.places) ≡ b → (is_met ns part ≡ true → IsMetBy ns part) → (b || is_met ns part) ≡ true → IsMetBy (n ∷ ns) part
@@ -104,7 +104,7 @@ among_lost inner value numbers (part ∷ parts) (pair ∷ pairs) zero below low 
 among_lost inner value numbers (part ∷ parts) (pair ∷ pairs) (suc k) below low met there lost = inr (among_lost inner value numbers parts pairs k (omega (arith, below)) (omega (arith, low)) met there lost)
 
 -- a place that lies in a subchunk meets it
-meets_part : (numbers : List ℕ) (part : Part) (t : ℕ) → t < length numbers → nat_lt (position_of (get_or numbers t 0) part.places) (length part.places) ≡ true → is_met numbers part ≡ true
+pub meets_part : (numbers : List ℕ) (part : Part) (t : ℕ) → t < length numbers → nat_lt (position_of (get_or numbers t 0) part.places) (length part.places) ≡ true → is_met numbers part ≡ true
 meets_part [] part t below inside = absurd (omega (arith, below))
 meets_part (n ∷ ns) part zero below inside = or_left (nat_lt (position_of n part.places) (length part.places)) (is_met ns part) inside
 meets_part (n ∷ ns) part (suc t) below inside = or_right (nat_lt (position_of n part.places) (length part.places)) (is_met ns part) (meets_part ns part t (omega (arith, below)) inside)

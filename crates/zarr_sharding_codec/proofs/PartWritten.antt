@@ -1,5 +1,5 @@
 -- A part of an array was written into its shard, or why it wasn't.
-use Rattle.std.proofs.Common.{◌≡◌, ◌⊎◌, ◌∙◌, inl, inr, ℕ, ◌+◌, ◌/◌, ◌<◌, ◌^◌, List, [], ◌∷◌, length, map, get_or, ap, sym, subst, arith, Bool, true, Option, Some, None, unwrap_or, is_some, IsTrue, MatchOption, Result, Ok, Err}
+use Rattle.std.proofs.Common.{◌≡◌, ◌⊎◌, ◌∙◌, inl, inr, ℕ, zero, suc, ◌+◌, ◌/◌, ◌<◌, ◌^◌, List, [], ◌∷◌, length, map, get_or, ap, sym, subst, arith, Bool, true, false, Option, Some, None, is_some, IsTrue, MatchOption, Result, Ok, Err}
 use Rattle.std.specs.Prelude.{nat_lt}
 use Rattle.std.specs.List.{list_all}
 use Rattle.std.proofs.lemmas.List.{length-map}
@@ -8,35 +8,37 @@ use Rattle.zarr_codecs_arrays.specs.declared.error.CodecError.{CodecError}
 use Rattle.zarr_codecs_arrays.specs.declared.error.CodecError.TheVariants as error
 use Rattle.zarr_codecs_meaning.specs.Chains.{Chain, Location, sharded}
 use Rattle.zarr_codecs_meaning.specs.Decoding.{opens}
-use Rattle.zarr_codecs_meaning.specs.Encoding.{Pair, Piece, absent_pair, index_size, piece_of, pieces_of}
+use Rattle.zarr_codecs_meaning.specs.Encoding.{Pair, Piece, absent_pair, index_size, pair_cells, piece_of, pieces_of}
 use Rattle.zarr_codecs_meaning.specs.Laws.{IsLawfulChain}
 use Rattle.zarr_codecs_meaning.specs.Payloads.{Payload}
-use Rattle.zarr_codecs_meaning.specs.Places.{gather, index_shape, parts_of}
-use Rattle.zarr_codecs_meaning.specs.Refusals.{CodecRefuses, IsMade, PassesIndex, PieceRefused}
-use Rattle.zarr_codecs_meaning.specs.Types.{Cell, Elements, is_fill, is_value}
+use Rattle.zarr_codecs_meaning.specs.Places.{Part, gather, index_shape, parts_of}
+use Rattle.zarr_codecs_meaning.specs.Refusals.{CodecRefuses, PassesIndex, PieceRefused}
+use Rattle.zarr_codecs_meaning.specs.Types.{Cell, Elements, is_fill, is_value, uint64, zero_filled}
 use Rattle.zarr_codecs_meaning.proofs.Fitting.{fitted}
-use Rattle.zarr_codecs_meaning.proofs.Parts.{index_product}
-use Rattle.zarr_codecs_traits.specs.Indexers.{Asked, numbers_asked, put}
+use Rattle.zarr_codecs_meaning.proofs.Parts.{index_product, no_part}
+use Rattle.zarr_codecs_traits.specs.Indexers.{Asked, numbers_asked}
 use Rattle.zarr_codecs_traits.specs.Arrays.{coded, update_of}
-use Rattle.zarr_codecs_traits.specs.PartWriting.{AreSlices, IsDamaged, IsEncodedInto, IsRefusedInto, MeetsLost, NotEncodedInto, PassesLength, cells_after, cells_shown, only_cell}
+use Rattle.zarr_codecs_traits.specs.PartWriting.{AfterPut, AfterWrite, AreMet, AreSlices, IsDamaged, IsEncodedInto, IsNewSlice, MeetsLost, MetRefused, NotEncodedInto, PassesLength, WriteRefuses, after_write, cells_after, is_met}
 use Rattle.zarr_sharding_changes.specs.Changes.{Change, appended, pairs_after}
+use Rattle.zarr_sharding_changes.specs.HeldShards.{held_shard}
 use Rattle.zarr_sharding_places.specs.Locating.{part_shape}
 use Rattle.zarr_sharding_places.specs.Pieces.{piece_decoded}
 use Rattle.zarr_sharding_state.specs.Held.{IsOpened, are_absent}
 use Rattle.zarr_sharding_state.specs.Written.{IsChanged}
-use Rattle.zarr_sharding_state.proofs.Reopened.{opened_length}
+use Rattle.zarr_sharding_state.proofs.Counts.{changed_count}
+use Rattle.zarr_sharding_state.proofs.Reopened.{data_of, opened_ends, opened_length}
 use Rattle.zarr_sharding_state.specs.Opened as opening
 use Rattle.zarr_sharding_codec.specs.Appending.{ChangesUnwritten, IsTestedPart}
-use Rattle.zarr_sharding_codec.specs.PartWriting.{AreChanged, IsLostAt, IsOf, IsRefusedAt, UpdatesSlices, cells_put, given_in, numbers_in, put_at, stored_in}
+use Rattle.zarr_sharding_codec.specs.PartWriting.{AreChanged, IsLostAt, IsOf, IsRefusedAt, UpdatesSlices, put_at, stored_in}
 use Rattle.zarr_sharding_codec.proofs.NumberedParts.{part_fewer, part_fits}
 use Rattle.zarr_sharding_codec.proofs.PartFill.{none_present}
-use Rattle.zarr_sharding_codec.proofs.PartHolds.{piece_there, put_gathered}
+use Rattle.zarr_sharding_codec.proofs.AppendedShard.{are_met, held_opened, is_met_at, new_slices}
+use Rattle.zarr_sharding_codec.proofs.PartAfter.{after_part, after_piece}
 use Rattle.zarr_sharding_codec.proofs.PartIntact.{lost_meets, part_intact}
 use Rattle.zarr_sharding_codec.proofs.PartKept.{shown_put}
-use Rattle.zarr_sharding_codec.proofs.PartShown.{IsShardOpened, absent_at, piece_gathered, shown_count}
+use Rattle.zarr_sharding_codec.proofs.PartShown.{IsShardOpened, absent_at}
 use Rattle.zarr_sharding_codec.proofs.PartStands.{IsAppended, absent_put, stands_put, tight_put}
 use Rattle.zarr_sharding_codec.proofs.PartPlaced.{damaged_value}
-use Rattle.zarr_sharding_codec.proofs.PutPieces.{places_at}
 use Rattle.zarr_sharding_codec.proofs.StoredLoop.{no_piece, too_large}
 use Rattle.zarr_sharding_codec.proofs.StoredParts.{refused_at}
 
@@ -74,8 +76,15 @@ are_no_slices made (piece ∷ pieces) = (tt, are_no_slices made pieces)
 
 -- why elements that were tested are not put
 pub refused_tested : (chain : Chain) (elements : Elements) (shape : List ℕ) (asked : Asked) (payload : Payload) (size : ℕ) (numbers : List ℕ) (stored : Option (List ℕ)) (refuses : List Cell → Type 0) → (tested : IsTestedPart chain elements shape asked payload size numbers)
-    → refuses (cells_after (coded chain elements shape) stored (numbers_asked shape asked) tested.cells) → IsRefusedInto (coded chain elements shape) (update_of asked payload stored) refuses
+    → refuses (cells_after (coded chain elements shape) stored (numbers_asked shape asked) tested.cells) → AfterPut (coded chain elements shape) (update_of asked payload stored) refuses
 refused_tested chain elements shape asked payload size numbers stored refuses tested is = record { cells = tested.cells; valid = tested.valid; fit = tested.fit; inside = tested.inside; is = is }
+
+-- a subchunk that is met and refused is so among all
+refused_among : (refused : List ℕ → List Cell → Type 0) (fill : Cell) (write : AfterWrite) (parts : List Part) (k : ℕ) → k < length parts → is_met write.numbers (get_or parts k no_part) ≡ true → is_fill fill (gather fill write.cells (get_or parts k no_part).places) ≡ false
+    → refused (get_or parts k no_part).shape (gather fill write.cells (get_or parts k no_part).places) → MetRefused refused fill write parts
+refused_among refused fill write [] k low met some is = absurd (omega (arith, low))
+refused_among refused fill write (part ∷ parts) zero low met some is = inl (met, some, is)
+refused_among refused fill write (part ∷ parts) (suc k) low met some is = inr (refused_among refused fill write parts k (omega (arith, low)) met some is)
 
 pub part_unopened : (A : Type 0) (subchunk : List ℕ) (inner index : Chain) (location : Location) (elements : Elements) (shape : List ℕ) (asked : Asked) (payload : Payload) (size : ℕ) (numbers : List ℕ) (old : Option (List ℕ)) (e : CodecError)
     → IsTestedPart (sharded subchunk inner index location) elements shape asked payload size numbers → opening.OpenRefused index location (index_shape shape subchunk) old e → NotEncodedInto {A = A} (coded (sharded subchunk inner index location) elements shape) (update_of asked payload old) (Err e)
@@ -87,7 +96,7 @@ part_unopened A subchunk inner index location elements shape asked payload size 
     let after = cells_after (coded chain elements shape) (Some value) (numbers_asked shape asked) tested.cells in
     let pieces = pieces_of elements.fill after (parts_of shape subchunk) in
     let none : List (Option (List ℕ)) = map (λ (piece : Piece). None) pieces in
-    let long : PassesLength chain elements shape (Some value) after = (none, are_no_slices (IsMade inner elements) pieces, omega (arith, why)) in
+    let long : PassesLength chain elements shape (Some value) after = (none, are_no_slices (IsNewSlice inner elements) pieces, omega (arith, why)) in
     inr (refused_tested chain elements shape asked payload size numbers (Some value) (λ cells. PassesIndex chain elements shape cells ⊎ PassesLength chain elements shape (Some value) cells) tested (inr long))
 part_unopened A subchunk inner index location elements shape asked payload size numbers old error.Source tested why = tt
 part_unopened A subchunk inner index location elements shape asked payload size numbers old error.Memory tested why = tt
@@ -98,32 +107,30 @@ part_unopened A subchunk inner index location elements shape asked payload size 
 module _ (A : Type 0) (subchunk : List ℕ) (inner index : Chain) (location : Location) (exact : Bool) (elements : Elements) (shape : List ℕ) (asked : Asked) (payload : Payload) (size : ℕ) (numbers : List ℕ) (old : Option (List ℕ)) (pairs : List Pair)
     (tested : IsTestedPart (sharded subchunk inner index location) elements shape asked payload size numbers) (opened : IsShardOpened subchunk inner index location elements shape old pairs)
     (below : list_all (λ n. nat_lt n (product shape)) numbers ≡ true) where
-  -- the cells that the array would have
-  abbrev pub after : List Cell
+  abbrev after : List Cell
   after = cells_after (coded (sharded subchunk inner index location) elements shape) old (numbers_asked shape asked) tested.cells
-
-  -- those of a subchunk that is decoded
-  pub after_piece : (k : ℕ) (before : List Cell) → k < length pairs → piece_decoded inner elements (unwrap_or old []) (part_shape shape subchunk k) (get_or pairs k absent_pair) ≡ Some before
-      → get_or (pieces_of elements.fill after (parts_of shape subchunk)) k no_piece ≡ (part_shape shape subchunk k, cells_put (put_at shape subchunk numbers tested.cells) k before)
-  after_piece k before low held =
-      let many = opened.many in
-      let there : k < length (parts_of shape subchunk) = omega (arith, low, many) in
-      let shown = map (only_cell elements.fill) (cells_shown (sharded subchunk inner index location) elements shape old) in
-      let long = length-map (cells_shown (sharded subchunk inner index location) elements shape old) (only_cell elements.fill) ∙ shown_count subchunk inner index location elements shape old in
-      piece_there elements.fill after shape subchunk k opened.cuts there
-      ∙ ap (λ (cs : List Cell). (part_shape shape subchunk k, cs))
-      (ap (λ (ns : List ℕ). gather elements.fill (put ns tested.cells shown) (places_at shape subchunk k)) (sym tested.numbers_are)
-      ∙ (put_gathered elements.fill shape subchunk k numbers tested.cells shown opened.cuts there below long
-      ∙ ap (put (numbers_in shape subchunk k numbers) (given_in shape subchunk k numbers tested.cells)) (piece_gathered subchunk inner index location elements shape old pairs k before opened there held)))
 
   after_refused : (refuses : Chain → Elements → List ℕ → List Cell → Type 0) → IsRefusedAt refuses (stored_in inner exact elements old pairs) (put_at shape subchunk numbers tested.cells) → PieceRefused (refuses inner elements) elements.fill (pieces_of elements.fill after (parts_of shape subchunk))
   after_refused refuses why =
-      let is = after_piece why.number why.before why.below why.held in
+      let is = after_piece subchunk inner index location elements shape asked payload size numbers old pairs tested opened why.number why.before why.below why.held in
       let many = opened.many in
       let low = why.below in
       let count = length-map (parts_of shape subchunk) (piece_of elements.fill after) in
       refused_at (refuses inner elements) elements.fill (pieces_of elements.fill after (parts_of shape subchunk)) why.number no_piece (omega (arith, many, low, count))
       (ap (λ (piece : Piece). is_fill elements.fill piece.1) is ∙ why.some) (subst (λ (piece : Piece). refuses inner elements piece.0 piece.1) (sym is) why.is)
+
+  -- one that is refused is met
+  met_refused : (refuses : Chain → Elements → List ℕ → List Cell → Type 0) → IsRefusedAt refuses (stored_in inner exact elements old pairs) (put_at shape subchunk numbers tested.cells)
+      → MetRefused (refuses inner elements) elements.fill (after_write (numbers_asked shape asked) old after) (parts_of shape subchunk)
+  met_refused refuses why =
+      let here = after_part subchunk inner index location elements shape asked payload size numbers old pairs tested opened why.number why.before why.below why.held in
+      let parts = parts_of shape subchunk in
+      let many = opened.many in
+      let low = why.below in
+      let there : why.number < length parts = omega (arith, many, low) in
+      refused_among (refuses inner elements) elements.fill (after_write (numbers_asked shape asked) old after) parts why.number there
+      (subst (λ (ns : List ℕ). is_met ns (get_or parts why.number no_part) ≡ true) tested.numbers_are (is_met_at shape subchunk numbers tested.cells why.number opened.cuts there below why.met))
+      (ap (λ (piece : Piece). is_fill elements.fill piece.1) here ∙ why.some) (subst (λ (piece : Piece). refuses inner elements piece.0 piece.1) (sym here) why.is)
 
   -- a subchunk that isn't decoded is damage, as one of the places lies in it
   lost_stops : (o : Option (List ℕ)) → IsShardOpened subchunk inner index location elements shape o pairs → IsLostAt (stored_in inner exact elements o pairs) (put_at shape subchunk numbers tested.cells)
@@ -140,7 +147,7 @@ module _ (A : Type 0) (subchunk : List ℕ) (inner index : Chain) (location : Lo
   pub part_not_updated : (e : CodecError) → UpdatesSlices (stored_in inner exact elements old pairs) (put_at shape subchunk numbers tested.cells) (Err e) → NotEncodedInto {A = A} (coded (sharded subchunk inner index location) elements shape) (update_of asked payload old) (Err e)
   part_not_updated error.Damage why = (tested.fit, inl (lost_stops old opened why))
   part_not_updated error.Codec why =
-      refused_tested (sharded subchunk inner index location) elements shape asked payload size numbers old (CodecRefuses (sharded subchunk inner index location) elements shape) tested (inl (after_refused CodecRefuses why))
+      refused_tested (sharded subchunk inner index location) elements shape asked payload size numbers old (WriteRefuses (coded (sharded subchunk inner index location) elements shape) (update_of asked payload old)) tested (inl (inl (met_refused CodecRefuses why)))
   part_not_updated error.Size (inl large) =
       inl (too_large elements.type (product (part_shape shape subchunk large.number)) (product shape) (part_fewer shape subchunk large.number opened.cuts) large.is)
   part_not_updated error.Size (inr why) =
@@ -152,16 +159,31 @@ module _ (A : Type 0) (subchunk : List ℕ) (inner index : Chain) (location : Lo
 
   -- ---- what isn't written
 
-  pub part_not_written : (made : List Pair) (result : Result Bool CodecError) → length made ≡ length (parts_of shape subchunk) → ChangesUnwritten index (index_shape shape subchunk) made result → NotEncodedInto (coded (sharded subchunk inner index location) elements shape) (update_of asked payload old) result
-  part_not_written made (Ok written) many why = tt
-  part_not_written made (Err error.Codec) many why =
-      refused_tested (sharded subchunk inner index location) elements shape asked payload size numbers old (CodecRefuses (sharded subchunk inner index location) elements shape) tested (inr (made, many, why))
-  part_not_written made (Err error.Size) many why =
+  pub part_not_written : (end : ℕ) (changes : List Change) (result : Result Bool CodecError) → IsOpened index location (index_shape shape subchunk) (length (parts_of shape subchunk)) old pairs end
+      → AreChanged (stored_in inner exact elements old pairs) (put_at shape subchunk numbers tested.cells) changes → ChangesUnwritten index (index_shape shape subchunk) (pairs_after end changes pairs) result
+      → NotEncodedInto (coded (sharded subchunk inner index location) elements shape) (update_of asked payload old) result
+  part_not_written end changes (Ok written) held changed why = tt
+  part_not_written end changes (Err error.Codec) held changed why =
+      let chain = sharded subchunk inner index location in
+      let pairs_shape = index_shape shape subchunk in
+      let parts = parts_of shape subchunk in
+      let ends = opened_ends index location pairs_shape (length parts) end old pairs held in
+      refused_tested chain elements shape asked payload size numbers old (WriteRefuses (coded chain elements shape) (update_of asked payload old)) tested
+      (inl (inr (
+        held_shard pairs (data_of location (index_size index pairs_shape) old),
+        changes,
+        held_opened subchunk index location shape end old pairs held,
+        subst (λ (ns : List ℕ). AreMet ns parts changes) tested.numbers_are (are_met shape subchunk numbers tested.cells (stored_in inner exact elements old pairs) changes opened.cuts opened.many below changed),
+        new_slices subchunk inner index location exact elements shape asked payload size numbers old pairs changes tested opened changed,
+        subst (λ n. CodecRefuses index (zero_filled uint64) pairs_shape (pair_cells (pairs_after n changes pairs))) ends why,
+      )))
+  part_not_written end changes (Err error.Size) held changed why =
+      let made = pairs_after end changes pairs in
       inr (refused_tested (sharded subchunk inner index location) elements shape asked payload size numbers old
-      (λ cells. PassesIndex (sharded subchunk inner index location) elements shape cells ⊎ PassesLength (sharded subchunk inner index location) elements shape old cells) tested (inl (inr (inr (made, many, why)))))
-  part_not_written made (Err error.Source) many why = tt
-  part_not_written made (Err error.Memory) many why = tt
-  part_not_written made (Err e) many why = absurd why
+      (λ cells. PassesIndex (sharded subchunk inner index location) elements shape cells ⊎ PassesLength (sharded subchunk inner index location) elements shape old cells) tested (inl (inr (inr (made, changed_count end changes pairs ∙ opened.many, why)))))
+  part_not_written end changes (Err error.Source) held changed why = tt
+  part_not_written end changes (Err error.Memory) held changed why = tt
+  part_not_written end changes (Err e) held changed why = absurd why
 
 -- ---- what is written
 
@@ -175,7 +197,7 @@ pub record IsReady (subchunk : List ℕ) (inner index : Chain) (location : Locat
   pub changed : AreChanged (stored_in inner exact elements old pairs) (put_at shape subchunk numbers tested.cells) changes
 
 -- as many pairs as subchunks
-half_index : (shape subchunk : List ℕ) → product (index_shape shape subchunk) / 2 ≡ length (parts_of shape subchunk)
+pub half_index : (shape subchunk : List ℕ) → product (index_shape shape subchunk) / 2 ≡ length (parts_of shape subchunk)
 half_index shape subchunk = let two = index_product shape subchunk in omega (arith, two)
 
 pub ready_appended : (subchunk : List ℕ) (inner index : Chain) (location : Location) (exact one : Bool) (elements : Elements) (shape : List ℕ) (asked : Asked) (payload : Payload) (size : ℕ) (numbers : List ℕ) (old new : Option (List ℕ)) (pairs : List Pair) (end ended : ℕ) (changes : List Change)

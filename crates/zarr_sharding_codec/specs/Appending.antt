@@ -1,10 +1,10 @@
 -- What is written of a part of an array by appending to its shard.
-use Rattle.std.specs.Prelude.{◌≡◌, ℕ, ◌+◌, ◌^◌, ◌<◌, ◌≤◌, List, length, Option, Bool, true, false, MatchBool, nat_lt, Result, Ok, Err}
+use Rattle.std.specs.Prelude.{◌≡◌, ℕ, ◌+◌, ◌^◌, ◌<◌, ◌≤◌, List, length, Option, Bool, true, false, IsTrue, MatchBool, OnErr, nat_lt, Result, Ok, Err}
 use Rattle.std.specs.List.{list_all}
 use Rattle.zarr_grids_boxes.specs.Boxes.{product}
 use Rattle.zarr_codecs_meaning.specs.Chains.{Chain, Location}
 use Rattle.zarr_codecs_meaning.specs.Encoding.{Pair, index_size, pair_cells}
-use Rattle.zarr_codecs_meaning.specs.Fits.{fits, is_lossless}
+use Rattle.zarr_codecs_meaning.specs.Fits.{fits}
 use Rattle.zarr_codecs_meaning.specs.Payloads.{Payload}
 use Rattle.zarr_codecs_meaning.specs.Refusals.{CodecRefuses, PassesIndex}
 use Rattle.zarr_codecs_meaning.specs.Types.{Cell, Elements, uint64, zero_filled}
@@ -12,9 +12,13 @@ use Rattle.zarr_codecs_arrays.specs.Outcomes.{IsValid}
 use Rattle.zarr_codecs_arrays.specs.declared.error.CodecError.{CodecError}
 use Rattle.zarr_codecs_arrays.specs.declared.error.CodecError.TheVariants as error
 use Rattle.zarr_codecs_traits.specs.Indexers.{Asked, are_inside, numbers_asked}
-use Rattle.zarr_codecs_traits.specs.Arrays.{coded, update_of}
-use Rattle.zarr_codecs_traits.specs.PartWriting.{IsEncodedInto, IsRefusedInto, PassesLength}
+use Rattle.zarr_codecs_traits.specs.Arrays.{Coded, Update}
+use Rattle.zarr_codecs_traits.specs.PartWriting.{EncodesInto, IsPlaced, LacksRoom}
+use Rattle.zarr_codecs_traits.specs.ShardWrites.{LeavesParts}
+use Rattle.zarr_codecs_traits.specs.Sources.{refused_after}
 use Rattle.zarr_codecs_traits.specs.Writes.{accepted_after}
+use Rattle.zarr_codecs_traits.specs.declared.byte_source.BytesPartialDecoderTraits as source
+use Rattle.zarr_codecs_traits.specs.declared.byte_target.BytesPartialEncoderTraits as target
 use Rattle.zarr_sharding_changes.specs.Changes.{Change, appended, pairs_after}
 use Rattle.zarr_sharding_state.specs.Held.{shard_length}
 use Rattle.zarr_sharding_state.specs.Written.{IsChanged}
@@ -31,14 +35,10 @@ pub record IsTestedPart (chain : Chain) (elements : Elements) (shape : List ℕ)
   pub below : list_all (λ n. nat_lt n (product shape)) numbers ≡ true
   pub size_is : size ≡ index_length chain shape
 
--- if the chain keeps every bit, the new slices of a part, put behind what is stored, would make 2^63 bytes or more
-abbrev pub LacksRoom : Chain → Elements → List ℕ → Asked → Payload → Option (List ℕ) → Type 0
-LacksRoom chain elements shape asked payload old = is_lossless chain elements.type ≡ true → IsRefusedInto (coded chain elements shape) (update_of asked payload old) (PassesLength chain elements shape old)
-
--- new cells were put at the places that are asked for; or there is no room for them, and nothing was written
-abbrev pub AppendsPart : Chain → Bool → Elements → List ℕ → Asked → Payload → Option (List ℕ) → Option (List ℕ) → Bool → Type 0
-AppendsPart chain exact elements shape asked payload old new written =
-    MatchBool written ((cells : List Cell) × IsEncodedInto (coded chain elements shape) exact (update_of asked payload old) cells new) ((new ≡ old) × LacksRoom chain elements shape asked payload old)
+-- new cells were put at the places that are asked for, and the parts that the write doesn't meet stay; or there is no room for the new slices behind what is stored, where each present slice lies in the data part, and nothing was written
+abbrev pub AppendsPart : Coded → Bool → Update → Option (List ℕ) → Bool → Type 0
+AppendsPart array exact update new written =
+    MatchBool written (EncodesInto array exact update new × LeavesParts array update new) ((new ≡ update.stored) × IsPlaced array.chain array.shape update.stored × LacksRoom array update)
 
 -- changes were written; or the shard would then have 2^63 bytes or more, and nothing was written
 abbrev pub AppendsChanges : Chain → Bool → Location → List ℕ → List Change → ℕ → List Pair → Option (List ℕ) → Option (List ℕ) → Bool → Type 0
@@ -51,6 +51,13 @@ abbrev pub accepted_by : ℕ → Result Bool CodecError → ℕ
 accepted_by count (Ok true) = accepted_after {A = Bool} count (Ok true)
 accepted_by count (Ok false) = count
 accepted_by count (Err e) = count
+
+-- a source after a call that writes to it once, where there is room: an error leaves what an honest one holds, and its refusals and accepted writes are counted
+pub record TriedToWrite {E : Type 0} (e : target.Ghosts E) (d : source.Ghosts E) (old new : E) (result : Result Bool CodecError) : Type 0 where
+  pub err : IsTrue (d.is_honest old) → OnErr result (d.contents new ≡ d.contents old)
+  pub refused : d.refused_calls new ≡ refused_after (d.refused_calls old) result
+  pub accepted : e.accepted_writes new ≡ accepted_by (e.accepted_writes old) result
+  pub rewrites : e.rewrites old new
 
 -- why changes are not written that there is room for: the index of the pairs after them is refused, or the source refuses
 abbrev pub ChangesUnwritten : Chain → List ℕ → List Pair → Result Bool CodecError → Type 0

@@ -2,7 +2,6 @@ pub mod Views
 pub mod Fitting
 pub mod Slices
 pub mod Assembled
-pub mod Gapless
 pub mod Reading
 pub mod PartWriting
 pub mod Appending

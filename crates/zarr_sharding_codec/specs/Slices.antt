@@ -10,6 +10,7 @@ use Rattle.zarr_codecs_meaning.specs.Standing.{Stands}
 use Rattle.zarr_codecs_meaning.specs.Types.{Elements, is_fill, IsTooLarge}
 use Rattle.zarr_codecs_arrays.specs.declared.error.CodecError.{CodecError}
 use Rattle.zarr_codecs_arrays.specs.declared.error.CodecError.TheVariants as error
+use Rattle.zarr_sharding_changes.specs.Gapless.{IsGapless}
 use Rattle.zarr_sharding_index.specs.Views.{pairs_of}
 use Rattle.zarr_sharding_index.specs.declared.index.ShardIndex.{ShardIndex}
 
@@ -17,12 +18,13 @@ use Rattle.zarr_sharding_index.specs.declared.index.ShardIndex.{ShardIndex}
 abbrev pub slice_of : Option (Vec ℕ Global) → Option (List ℕ)
 slice_of slice = option_map (λ (bytes : Vec ℕ Global). bytes.items) slice
 
--- the slice of a subchunk that isn't all fill: what encoding it means, where that is a function; it stands for the subchunk's cells, where every bit is kept
+-- the slice of a subchunk that isn't all fill: what encoding it means, where that is a function; it stands for the subchunk's cells, where every bit is kept; it has no gaps
 pub record IsSlice (inner : Chain) (exact : Bool) (elements : Elements) (piece : Piece) (slice : List ℕ) : Type 0 where
   pub some : is_fill elements.fill piece.1 ≡ false
   pub encodes : IsTrue exact → encoded inner elements piece.0 piece.1 ≡ Some slice
   pub stands : is_lossless inner elements.type ≡ true → Stands inner elements piece.0 slice piece.1
   pub sized : is_size_as (representation_of inner elements.type piece.0) (length slice) ≡ true
+  pub gapless : IsGapless inner piece.0 slice
 
 -- what is stored of a subchunk: nothing where it is all fill, else its slice
 abbrev pub IsPieceStored : Chain → Bool → Elements → Piece → Option (List ℕ) → Type 0

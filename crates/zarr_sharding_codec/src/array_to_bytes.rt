@@ -21,15 +21,10 @@ use zarr_sharding_compaction::{ShardLayout, compact_shard};
 use zarr_sharding_inner::IndexCodec;
 
 impl<I: ArrayToBytesCodecTraits, X: IndexCodec> ArrayToBytesCodecTraits for ShardingCodec<I, X> {
-    ghost use Rattle.std.specs.Prelude.{◌≡◌, IfOk, true};
-    ghost use Rattle.zarr_codecs_arrays.specs.Views.{elements_of, payload_of};
-    ghost use Rattle.zarr_codecs_meaning.specs.Fits.{is_lossless};
-    ghost use Rattle.zarr_codecs_meaning.specs.Types.{uint64};
+    ghost use Rattle.std.specs.Prelude.{◌≡◌, IfOk};
     ghost use Rattle.zarr_codecs_traits.specs.Arrays.{coded};
-    ghost use Rattle.zarr_codecs_traits.specs.Outcomes.{Encodes};
-    ghost use Rattle.zarr_sharding_codec.specs.Gapless.{IsGapless};
     ghost use Rattle.zarr_sharding_codec.specs.Pieces.{DecodesPieceOf, IsCut, IsCutArray, IsCutPart, StoresPieceOf};
-    ghost use Rattle.zarr_sharding_codec.specs.Views.{index_of, inner_of, makes_a_function, order_of, place_of_index, shard_chain, shard_copied, subchunk_of};
+    ghost use Rattle.zarr_sharding_codec.specs.Views.{inner_of, makes_a_function, order_of, shard_chain, shard_copied};
 
     ghost meaning = { shard_chain I.meaning X.meaning };
 
@@ -68,15 +63,7 @@ impl<I: ArrayToBytesCodecTraits, X: IndexCodec> ArrayToBytesCodecTraits for Shar
         bytes: ArrayBytes,
         elements: &Elements,
         shape: &[u64],
-    ) -> Result<Vec<u8>, CodecError>
-        ensures encodes { Encodes (coded (shard_chain I.meaning X.meaning self.now)
-            (elements_of elements.now) shape.now) (makes_a_function I.is_function X.is_function
-            self.now) (payload_of bytes) result }
-        ensures gapless { IfOk result (λ value.
-            is_lossless (X.meaning (index_of self.now)) uint64 ≡ true → IsGapless
-            (subchunk_of self.now) (X.meaning (index_of self.now)) (place_of_index self.now)
-            shape.now value.items) }
-    {
+    ) -> Result<Vec<u8>, CodecError> {
         let data_type = elements.data_type();
         let Some(size) = self.suited(alloc, data_type, shape)? else {
             return Err(CodecError::Fit);

@@ -1,5 +1,5 @@
 //! Parts of arrays, cut into the slices of the subchunks that they meet.
-ghost use Rattle.std.specs.Prelude.{◌≡◌, ◌<◌, ℕ, List, [], None, length, get_or, unwrap_or, IsTrue, IfOk};
+ghost use Rattle.std.specs.Prelude.{◌≡◌, ◌<◌, ◌≤◌, ◌+◌, ℕ, List, [], None, length, get_or, unwrap_or, IsTrue, IfOk};
 ghost use Rattle.zarr_codecs_arrays.specs.Views.{elements_of};
 ghost use Rattle.zarr_codecs_meaning.specs.Encoding.{absent_pair};
 ghost use Rattle.zarr_codecs_traits.specs.Indexers.{asked_of, in_box, listed};
@@ -7,6 +7,7 @@ ghost use Rattle.zarr_grids_boxes.specs.Subsets.{region_of};
 ghost use Rattle.zarr_sharding_codec.specs.Pieces.{HasNoPiece, IsBehind, PutsPart, ReadsMore, asked_piece, refused_reading};
 ghost use Rattle.zarr_sharding_codec.specs.Reading.{IsTotalOf};
 ghost use Rattle.zarr_sharding_index.specs.Present.{all_pairs};
+ghost use Rattle.zarr_sharding_state.specs.States.{slice_length};
 
 use crate::box_reading::{AskedBox, BoxCut, IndexedPlaces};
 use crate::codec::ShardingCodec;
@@ -27,17 +28,19 @@ use zarr_sharding_places::{
 };
 
 impl<I: ArrayToBytesCodecTraits, X: ArrayToBytesCodecTraits> ShardingCodec<I, X> {
-    ghost use Rattle.std.specs.Prelude.{◌≡◌, [], length, nat_lt, true, unwrap_or, IfOk, IsTrue};
+    ghost use Rattle.std.specs.Prelude.{◌≡◌, ◌≤◌, ◌+◌, [], length, nat_lt, true, unwrap_or, IfOk, IsTrue};
     ghost use Rattle.std.specs.List.{list_all};
     ghost use Rattle.zarr_codecs_arrays.specs.Views.{elements_of};
     ghost use Rattle.zarr_codecs_meaning.specs.Encoding.{index_size};
     ghost use Rattle.zarr_codecs_meaning.specs.Fits.{fits};
     ghost use Rattle.zarr_codecs_meaning.specs.Places.{index_shape, parts_of};
     ghost use Rattle.zarr_codecs_traits.specs.Arrays.{coded, coded_part};
-    ghost use Rattle.zarr_codecs_traits.specs.Indexers.{are_inside, asked_of, in_box, listed, shape_has};
+    ghost use Rattle.zarr_codecs_traits.specs.Indexers.{are_inside, asked_of, in_box, listed, numbers_asked, numbers_of, shape_has};
     ghost use Rattle.zarr_codecs_traits.specs.Pieces.{SplitsPart, refused_splitting};
+    ghost use Rattle.zarr_codecs_traits.specs.ReadBytes.{most_read};
     ghost use Rattle.zarr_grids_boxes.specs.Boxes.{product};
     ghost use Rattle.zarr_grids_boxes.specs.Subsets.{region_of};
+    ghost use Rattle.zarr_sharding_codec.specs.BytesMet.{bytes_met};
     ghost use Rattle.zarr_sharding_codec.specs.Pieces.{ArePartRead, IsCutPart, asked_part, refused_reading};
     ghost use Rattle.zarr_sharding_codec.specs.Reading.{IsTotalOf};
     ghost use Rattle.zarr_sharding_codec.specs.Views.{index_of, shard_chain, subchunk_of};
@@ -65,6 +68,10 @@ impl<I: ArrayToBytesCodecTraits, X: ArrayToBytesCodecTraits> ShardingCodec<I, X>
             (D.contents source.old) (asked_of part.entry.indexer) result }
         ensures refused { D.refused_calls source.new ≡
             refused_splitting (D.refused_calls source.old) result }
+        ensures given { IsTrue (D.is_honest source.old) → D.given_bytes source.new
+            ≤ D.given_bytes source.old + most_read (shard_chain I.meaning X.meaning self.now)
+            (elements_of part.entry.elements.now).type part.entry.shape.now
+            (D.contents source.old) (asked_of part.entry.indexer) }
         ensures follows { D.follows source.old source.new }
     {
         match self.open_index(alloc, source, size, part.shape) {
@@ -111,6 +118,10 @@ impl<I: ArrayToBytesCodecTraits, X: ArrayToBytesCodecTraits> ShardingCodec<I, X>
             (all_pairs shard.entry.pairs.now))) }
         ensures refused { D.refused_calls source.new ≡
             refused_reading (D.refused_calls source.old) result }
+        ensures given { IsTrue (D.is_honest source.old) → D.given_bytes source.new
+            ≤ D.given_bytes source.old + bytes_met asked.entry.shape.now (subchunk_of self.now)
+            (numbers_asked asked.entry.shape.now (asked_of asked.entry.indexer))
+            (all_pairs shard.entry.pairs.now) }
         ensures follows { D.follows source.old source.new }
     {
         let shape = asked.shape;
@@ -147,6 +158,10 @@ impl<I: ArrayToBytesCodecTraits, X: ArrayToBytesCodecTraits> ShardingCodec<I, X>
             (all_pairs shard.entry.pairs.now))) }
         ensures refused { D.refused_calls source.new ≡
             refused_reading (D.refused_calls source.old) result }
+        ensures given { IsTrue (D.is_honest source.old) → D.given_bytes source.new
+            ≤ D.given_bytes source.old + bytes_met asked.entry.shape.now (subchunk_of self.now)
+            (numbers_of asked.entry.shape.now (region_of asked.entry.region.now))
+            (all_pairs shard.entry.pairs.now) }
         ensures follows { D.follows source.old source.new }
     {
         let found = self.subchunks_met(alloc, asked.shape, asked.region)?;
@@ -187,6 +202,9 @@ impl<I: ArrayToBytesCodecTraits, X: ArrayToBytesCodecTraits> ShardingCodec<I, X>
             (all_pairs shard.entry.pairs.now))) }
         ensures refused { D.refused_calls source.new ≡
             refused_reading (D.refused_calls source.old) result }
+        ensures given { IsTrue (D.is_honest source.old) → D.given_bytes source.new
+            ≤ D.given_bytes source.old + bytes_met asked.entry.shape.now (subchunk_of self.now)
+            asked.entry.numbers.now (all_pairs shard.entry.pairs.now) }
         ensures follows { D.follows source.old source.new }
     {
         let places = self.places_of(alloc, asked)?;
@@ -238,6 +256,9 @@ fn read_more<D: BytesPartialDecoderTraits>(
         (get_or (all_pairs shard.entry.pairs.now) number absent_pair) number places) pieces) }
     ensures refused { D.refused_calls source.new ≡
         refused_reading (D.refused_calls source.old) result }
+    ensures given { IsTrue (D.is_honest source.old) → D.given_bytes source.new
+        ≤ D.given_bytes source.old
+        + slice_length (get_or (all_pairs shard.entry.pairs.now) number absent_pair) }
     ensures follows { D.follows source.old source.new }
 {
     let pair = shard.pairs.get(number as usize);

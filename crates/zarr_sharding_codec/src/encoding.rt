@@ -7,17 +7,16 @@ use zarr_codecs_traits::{ArrayToBytesCodecTraits, WholeArray};
 use zarr_sharding_index::shapes::index_shape;
 
 impl<I: ArrayToBytesCodecTraits, X: ArrayToBytesCodecTraits> ShardingCodec<I, X> {
-    ghost use Rattle.std.specs.Prelude.{◌≡◌, List, IfOk, true};
+    ghost use Rattle.std.specs.Prelude.{◌≡◌, List, true};
     ghost use Rattle.zarr_codecs_arrays.specs.Outcomes.{IsValid};
     ghost use Rattle.zarr_codecs_arrays.specs.Views.{elements_of, payload_of};
-    ghost use Rattle.zarr_codecs_meaning.specs.Fits.{fits, is_lossless};
-    ghost use Rattle.zarr_codecs_meaning.specs.Types.{Cell, uint64};
+    ghost use Rattle.zarr_codecs_meaning.specs.Fits.{fits};
+    ghost use Rattle.zarr_codecs_meaning.specs.Types.{Cell};
     ghost use Rattle.zarr_codecs_traits.specs.Arrays.{coded_array};
     ghost use Rattle.zarr_codecs_traits.specs.Outcomes.{Encodes};
     ghost use Rattle.zarr_grids_boxes.specs.Boxes.{product};
     ghost use Rattle.zarr_sharding_codec.specs.Fitting.{index_length};
-    ghost use Rattle.zarr_sharding_codec.specs.Gapless.{IsGapless};
-    ghost use Rattle.zarr_sharding_codec.specs.Views.{index_of, makes_a_function, place_of_index, shard_chain, subchunk_of};
+    ghost use Rattle.zarr_sharding_codec.specs.Views.{makes_a_function, shard_chain};
 
     /// The shard that the elements of an array are encoded to, without gaps, where these are its
     /// elements and the codec suits it; its index has so many bytes.
@@ -34,13 +33,9 @@ impl<I: ArrayToBytesCodecTraits, X: ArrayToBytesCodecTraits> ShardingCodec<I, X>
             array.shape.now }
         requires valid { (cells : List Cell) × IsValid (elements_of array.elements.now).type
             (payload_of bytes.now) (product array.shape.now) cells }
-        ensures encodes { Encodes (coded_array (shard_chain I.meaning X.meaning self.now)
+        ensures { Encodes (coded_array (shard_chain I.meaning X.meaning self.now)
             array.entry) (makes_a_function I.is_function X.is_function self.now)
             (payload_of bytes.now) result }
-        ensures gapless { IfOk result (λ value.
-            is_lossless (X.meaning (index_of self.now)) uint64 ≡ true → IsGapless
-            (subchunk_of self.now) (X.meaning (index_of self.now)) (place_of_index self.now)
-            array.entry.shape.now value.items) }
     {
         match self.store_pieces(alloc, bytes, array, size) {
             Ok((data, index)) => {

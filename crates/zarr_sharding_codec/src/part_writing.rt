@@ -20,17 +20,18 @@ pub struct TestedPart<'a> {
 }
 
 impl<I: ArrayToBytesCodecTraits, X: ArrayToBytesCodecTraits> ShardingCodec<I, X> {
-    ghost use Rattle.std.specs.Prelude.{◌≡◌, ◌+◌, ◌*◌, ◌<◌, ◌^◌, ℕ, List, Option, Some, true, length, nat_lt, unwrap_or, IsTrue, IfOk, OnErr, OnOk};
+    ghost use Rattle.std.specs.Prelude.{◌≡◌, ◌+◌, ◌*◌, ◌<◌, ◌≤◌, ◌^◌, ℕ, List, Option, Some, true, length, nat_lt, unwrap_or, IsTrue, IfOk};
     ghost use Rattle.std.specs.List.{list_all};
     ghost use Rattle.zarr_codecs_arrays.specs.Views.{elements_of, payload_of};
     ghost use Rattle.zarr_codecs_meaning.specs.Encoding.{index_size};
     ghost use Rattle.zarr_codecs_traits.specs.Indexers.{asked_of, numbers_asked};
     ghost use Rattle.zarr_codecs_traits.specs.Arrays.{coded_part, update_part};
-    ghost use Rattle.zarr_codecs_traits.specs.PartWriting.{IsPlaced, NotEncodedInto};
+    ghost use Rattle.zarr_codecs_traits.specs.PartWriting.{NotEncodedInto};
+    ghost use Rattle.zarr_codecs_traits.specs.ShardWrites.{most_to_write};
     ghost use Rattle.zarr_codecs_traits.specs.Sources.{refused_after};
     ghost use Rattle.zarr_grids_boxes.specs.Boxes.{product};
     ghost use Rattle.zarr_sharding_changes.specs.Changes.{appended, pairs_after};
-    ghost use Rattle.zarr_sharding_codec.specs.Appending.{AppendsChanges, AppendsPart, IsTestedPart, ChangesUnwritten, accepted_by};
+    ghost use Rattle.zarr_sharding_codec.specs.Appending.{AppendsChanges, AppendsPart, ChangesUnwritten, IsTestedPart, TriedToWrite};
     ghost use Rattle.zarr_sharding_codec.specs.Views.{index_of, makes_a_function, place_of_index, shard_chain, subchunk_of};
     ghost use Rattle.zarr_sharding_index.specs.Stored.{index_fits};
     ghost use Rattle.zarr_sharding_index.specs.Views.{location_of};
@@ -92,26 +93,20 @@ impl<I: ArrayToBytesCodecTraits, X: ArrayToBytesCodecTraits> ShardingCodec<I, X>
             (elements_of part.elements.now) part.shape.now (asked_of part.indexer)
             (payload_of tested.bytes.now) tested.size
             (numbers_asked part.shape.now (asked_of part.indexer)) }
-        ensures ok { IsTrue (E.is_honest source.old) → IfOk result
-            (AppendsPart (shard_chain I.meaning X.meaning self.now)
+        ensures ok { IsTrue (E.is_honest source.old) → IfOk result (AppendsPart
+            (coded_part (shard_chain I.meaning X.meaning self.now) part.entry)
             (makes_a_function I.is_function X.is_function self.now)
-            (elements_of part.entry.elements.now) part.entry.shape.now
-            (asked_of part.entry.indexer) (payload_of tested.entry.bytes.now)
-            (E.contents source.old)
+            (update_part part.entry tested.entry.bytes.now (E.contents source.old))
             (E.contents source.new)) }
-        ensures placed { IsTrue (E.is_honest source.old) → OnOk result
-            (IsPlaced (shard_chain I.meaning X.meaning self.now) part.entry.shape.now
-            (E.contents source.old)) }
-        ensures err { IsTrue (E.is_honest source.old) →
-            OnErr result (E.contents source.new ≡ E.contents source.old) }
         ensures cause { IsTrue (E.is_honest source.old) → NotEncodedInto
             (coded_part (shard_chain I.meaning X.meaning self.now) part.entry)
             (update_part part.entry tested.entry.bytes.now (E.contents source.old)) result }
-        ensures refused { E.refused_calls source.new ≡
-            refused_after (E.refused_calls source.old) result }
-        ensures accepted { E.accepted_writes source.new ≡
-            accepted_by (E.accepted_writes source.old) result }
-        ensures rewrites { E.rewrites source.old source.new }
+        ensures given { IsTrue (E.is_honest source.old) → IsTrue (E.writes_ranges source.old) →
+            E.given_bytes source.new ≤ E.given_bytes source.old + most_to_write
+            (coded_part (shard_chain I.meaning X.meaning self.now) part.entry)
+            (update_part part.entry tested.entry.bytes.now (E.contents source.old)) }
+        ensures call { TriedToWrite E.BytesPartialEncoderTraits.own E.BytesPartialDecoderTraits
+            source.old source.new result }
     {
         let pairs_shape = index_shape(alloc, part.shape, &self.subchunk_shape)?;
         let layout = IndexLayout {
@@ -163,17 +158,14 @@ impl<I: ArrayToBytesCodecTraits, X: ArrayToBytesCodecTraits> ShardingCodec<I, X>
             (location_of given.entry.layout.location) given.entry.layout.shape.now
             (changes_of given.entry.changes.items) (end_of known) (pairs_in known)
             (E.contents source.old) (E.contents source.new)) }
-        ensures err { IsTrue (E.is_honest source.old) →
-            OnErr result (E.contents source.new ≡ E.contents source.old) }
         ensures cause { IsTrue (E.is_honest source.old) → ChangesUnwritten
             (X.meaning (index_of self.now)) given.entry.layout.shape.now
             (pairs_after (end_of known) (changes_of given.entry.changes.items) (pairs_in known))
             result }
-        ensures refused { E.refused_calls source.new ≡
-            refused_after (E.refused_calls source.old) result }
-        ensures accepted { E.accepted_writes source.new ≡
-            accepted_by (E.accepted_writes source.old) result }
-        ensures rewrites { E.rewrites source.old source.new }
+        ensures given { IsTrue (E.writes_ranges source.old) →
+            E.given_bytes source.new ≡ E.given_bytes source.old }
+        ensures call { TriedToWrite E.BytesPartialEncoderTraits.own E.BytesPartialDecoderTraits
+            source.old source.new result }
     {
         let lent = ShardChanges {
             layout: given.layout,

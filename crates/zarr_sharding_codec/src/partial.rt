@@ -64,7 +64,8 @@ impl<I: ArrayToBytesCodecTraits, X: ArrayToBytesCodecTraits> ShardingCodec<I, X>
     ghost use Rattle.zarr_codecs_traits.specs.Indexers.{are_inside, asked_of, numbers_asked};
     ghost use Rattle.zarr_codecs_traits.specs.Arrays.{coded_part};
     ghost use Rattle.zarr_codecs_traits.specs.Outcomes.{DecodesPart};
-    ghost use Rattle.zarr_codecs_traits.specs.Sources.{refused_after};
+    ghost use Rattle.zarr_codecs_traits.specs.ReadBytes.{most_read};
+    ghost use Rattle.zarr_codecs_traits.specs.Sources.{refused_after, value_length};
     ghost use Rattle.zarr_grids_boxes.specs.Boxes.{product};
     ghost use Rattle.zarr_sharding_codec.specs.BytesMet.{bytes_met};
     ghost use Rattle.zarr_sharding_codec.specs.Reading.{HasPairs, IsTotalOf, Lists, ListsRead, places_decoded, shard_cells, slice_cells};
@@ -78,6 +79,7 @@ impl<I: ArrayToBytesCodecTraits, X: ArrayToBytesCodecTraits> ShardingCodec<I, X>
 
     /// The elements at the places that are asked for, which are the array's, of the shard that a
     /// source holds; its index has so many bytes. Errors as those of `partial_decode`.
+    #[tactic(auto, using(crate::proofs::MostTaken::index_taken))]
     pub(crate) fn read_part<D: BytesPartialDecoderTraits>(
         &self,
         alloc: Global,
@@ -96,6 +98,10 @@ impl<I: ArrayToBytesCodecTraits, X: ArrayToBytesCodecTraits> ShardingCodec<I, X>
             (D.contents source.old) (asked_of part.entry.indexer) result }
         ensures refused { D.refused_calls source.new ≡
             refused_after (D.refused_calls source.old) result }
+        ensures given { IsTrue (D.is_honest source.old) → D.given_bytes source.new
+            ≤ D.given_bytes source.old + most_read (shard_chain I.meaning X.meaning self.now)
+            (elements_of part.entry.elements.now).type part.entry.shape.now
+            (D.contents source.old) (asked_of part.entry.indexer) }
         ensures follows { D.follows source.old source.new }
     {
         match self.open_index(alloc, source, size, part.shape) {
@@ -144,6 +150,8 @@ impl<I: ArrayToBytesCodecTraits, X: ArrayToBytesCodecTraits> ShardingCodec<I, X>
             refused_after (D.refused_calls source.old) result }
         ensures given { IsTrue (D.is_honest source.old) →
             D.given_bytes source.new ≤ D.given_bytes source.old + size }
+        ensures within { IsTrue (D.is_honest source.old) → D.given_bytes source.new
+            ≤ D.given_bytes source.old + value_length (D.contents source.old) }
         ensures follows { D.follows source.old source.new }
     {
         let grid = grid_of(alloc, shape, &self.subchunk_shape)?;

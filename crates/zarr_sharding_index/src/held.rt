@@ -1,7 +1,7 @@
 //! The index of a shard as the shard holds it.
 ghost use Rattle.std.specs.Prelude.{◌≡◌, ◌≤◌, ◌+◌, ◌%◌, ◌∷◌, [], ℕ, List, Some, length, nat_le, true, IsTrue};
 ghost use Rattle.zarr_codecs_meaning.specs.Encoding.{index_size};
-ghost use Rattle.zarr_codecs_traits.specs.Sources.{part_lists, refused_after, value_bytes};
+ghost use Rattle.zarr_codecs_traits.specs.Sources.{part_lists, refused_after, value_bytes, value_length};
 ghost use Rattle.zarr_grids_boxes.specs.Boxes.{product};
 ghost use Rattle.zarr_sharding_index.specs.Held.{DecodesIndex, FetchesIndex, FetchesSlice};
 ghost use Rattle.zarr_sharding_index.specs.Stored.{index_fits};
@@ -58,8 +58,8 @@ pub fn decode_index<X: ArrayToBytesCodecTraits>(
 }
 
 /// The index of the shard that a source holds, of which nothing else is fetched, or `None` where it
-/// holds none: at most the index's bytes are taken from an honest source. Errors as those of
-/// `decode_index`, and `Source` where the source refuses.
+/// holds none: at most the index's bytes are taken from an honest source, and never more than it
+/// has. Errors as those of `decode_index`, and `Source` where the source refuses.
 pub fn fetch_index<X: ArrayToBytesCodecTraits, D: BytesPartialDecoderTraits>(
     alloc: Global,
     codec: &X,
@@ -75,6 +75,8 @@ pub fn fetch_index<X: ArrayToBytesCodecTraits, D: BytesPartialDecoderTraits>(
         refused_after (D.refused_calls source.old) result }
     ensures given { IsTrue (D.is_honest source.old) →
         D.given_bytes source.new ≤ D.given_bytes source.old + layout.entry.size }
+    ensures within { IsTrue (D.is_honest source.old) → D.given_bytes source.new
+        ≤ D.given_bytes source.old + value_length (D.contents source.old) }
     ensures follows { D.follows source.old source.new }
 {
     match source.size() {

@@ -69,9 +69,14 @@ pub trait TakesShardingOptions: ArrayToBytesCodecTraits {
     /// row-major.
     ghost can_be_exact: { Self → Bool };
 
+    /// Whether two have the same codecs, each under the name that it keeps: of their shards the
+    /// orders of writing alone may differ.
+    ghost same_codecs: { Self → Self → Type 0 };
+
     /// The codec with these options for each of its shards.
     fn with_codec_specific_options(self, options: ShardingCodecOptions) -> Self
         ensures meaning { Self.meaning result ≡ Self.meaning self }
+        ensures codecs { same_codecs self result }
         ensures orders { orders result ≡ map (λ _. options.subchunk_write_order) (orders self) }
         ensures exact { is_row_major options.subchunk_write_order ≡ true →
             Self.is_function result ≡ can_be_exact self };

@@ -4,11 +4,13 @@ use zarr_codecs_bytes::BytesCodec;
 use zarr_codecs_packbits::PackBitsCodec;
 
 impl TakesShardingOptions for BytesCodec {
-    ghost use Rattle.std.specs.Prelude.{[], true};
+    ghost use Rattle.std.specs.Prelude.{◌≡◌, [], true};
 
     ghost orders = { λ _. [] };
 
     ghost can_be_exact = { λ _. true };
+
+    ghost same_codecs = { λ codec other. other ≡ codec };
 
     fn with_codec_specific_options(self, _: ShardingCodecOptions) -> BytesCodec {
         self
@@ -16,11 +18,13 @@ impl TakesShardingOptions for BytesCodec {
 }
 
 impl TakesShardingOptions for PackBitsCodec {
-    ghost use Rattle.std.specs.Prelude.{[], true};
+    ghost use Rattle.std.specs.Prelude.{◌≡◌, [], true};
 
     ghost orders = { λ _. [] };
 
     ghost can_be_exact = { λ _. true };
+
+    ghost same_codecs = { λ codec other. other ≡ codec };
 
     fn with_codec_specific_options(self, _: ShardingCodecOptions) -> PackBitsCodec {
         self

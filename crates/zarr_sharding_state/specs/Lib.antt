@@ -4,3 +4,4 @@ pub mod Views
 pub mod Laws
 pub mod States
 pub mod Opened
+pub mod Calls

@@ -18,15 +18,14 @@ struct GivenSlice<'a> {
 }
 
 impl KnownShard {
-    ghost use Rattle.std.specs.Prelude.{◌≡◌, ◌+◌, ◌*◌, ◌<◌, ◌^◌, ◌∷◌, [], length, false, true, Some, OnOk, OnErr, IsTrue};
+    ghost use Rattle.std.specs.Prelude.{◌≡◌, ◌+◌, ◌*◌, ◌<◌, ◌^◌, length, false, true, OnOk, IsTrue};
     ghost use Rattle.std.specs.List.{list_all};
     ghost use Rattle.zarr_codecs_meaning.specs.Encoding.{index_size};
-    ghost use Rattle.zarr_codecs_traits.specs.Sources.{refused_after};
-    ghost use Rattle.zarr_codecs_traits.specs.Writes.{accepted_after};
     ghost use Rattle.zarr_grids_boxes.specs.Boxes.{product};
-    ghost use Rattle.zarr_sharding_changes.specs.Changes.{appended, pairs_after};
+    ghost use Rattle.zarr_sharding_changes.specs.Changes.{pairs_after};
     ghost use Rattle.zarr_sharding_index.specs.Stored.{index_fits};
     ghost use Rattle.zarr_sharding_index.specs.Views.{location_of};
+    ghost use Rattle.zarr_sharding_state.specs.Calls.{CalledToWrite, KnownAfter, change_given};
     ghost use Rattle.zarr_sharding_state.specs.Held.{are_absent};
     ghost use Rattle.zarr_sharding_state.specs.States.{end_of, pairs_in};
     ghost use Rattle.zarr_sharding_state.specs.Views.{changes_of, is_below};
@@ -47,29 +46,19 @@ impl KnownShard {
         requires many { product given.layout.shape.now ≡ 2 * length (pairs_in self.old) }
         requires below { list_all (is_below (length (pairs_in self.old))) given.changes.items
             ≡ true }
-        ensures pairs { OnOk result (pairs_in self.new ≡ pairs_after (end_of self.old)
-            (changes_of given.entry.changes.items) (pairs_in self.old)) }
-        ensures room { OnOk result (end_of self.old
-            + length (appended (changes_of given.entry.changes.items)) < 2 ^ 63) }
+        ensures known { KnownAfter (changes_of given.entry.changes.items) self.old self.new result }
         ensures ok { IsTrue (E.is_honest source.old) → OnOk result
             (IsChanged (X.meaning codecs.now) (X.is_function codecs.now)
             (location_of given.entry.layout.location) given.entry.layout.shape.now
             (changes_of given.entry.changes.items) (end_of self.old) (pairs_in self.new)
             (E.contents source.old) (E.contents source.new) (end_of self.new)) }
-        ensures err { IsTrue (E.is_honest source.old) →
-            OnErr result (E.contents source.new ≡ E.contents source.old) }
-        ensures same { OnErr result ((pairs_in self.new ≡ pairs_in self.old)
-            × (end_of self.new ≡ end_of self.old)) }
         ensures cause { IsTrue (E.is_honest source.old) → ChangesRefused
             (X.meaning codecs.now) (location_of given.entry.layout.location)
             given.entry.layout.shape.now (changes_of given.entry.changes.items) (end_of self.old)
             (pairs_after (end_of self.old) (changes_of given.entry.changes.items)
             (pairs_in self.old)) result }
-        ensures refused { E.refused_calls source.new ≡
-            refused_after (E.refused_calls source.old) result }
-        ensures accepted { E.accepted_writes source.new ≡
-            accepted_after (E.accepted_writes source.old) result }
-        ensures rewrites { E.rewrites source.old source.new }
+        ensures call { CalledToWrite E.BytesPartialEncoderTraits.own E.BytesPartialDecoderTraits
+            source.old source.new result }
     {
         let layout = given.layout;
         let mut changes = given.changes;
@@ -103,32 +92,18 @@ impl KnownShard {
             ≡ index_size (X.meaning codecs.now) given.layout.shape.now }
         requires many { product given.layout.shape.now ≡ 2 * length (pairs_in self.old) }
         requires below { given.number < length (pairs_in self.old) }
-        ensures pairs { OnOk result (pairs_in self.new ≡ pairs_after (end_of self.old)
-            ((given.entry.number, Some given.entry.slice.items) ∷ []) (pairs_in self.old)) }
-        ensures room { OnOk result (end_of self.old
-            + length (appended ((given.entry.number, Some given.entry.slice.items) ∷ []))
-            < 2 ^ 63) }
+        ensures known { KnownAfter (change_given given.entry) self.old self.new result }
         ensures ok { IsTrue (E.is_honest source.old) → OnOk result
             (IsChanged (X.meaning codecs.now) (X.is_function codecs.now)
             (location_of given.entry.layout.location) given.entry.layout.shape.now
-            ((given.entry.number, Some given.entry.slice.items) ∷ []) (end_of self.old)
-            (pairs_in self.new)
+            (change_given given.entry) (end_of self.old) (pairs_in self.new)
             (E.contents source.old) (E.contents source.new) (end_of self.new)) }
-        ensures err { IsTrue (E.is_honest source.old) →
-            OnErr result (E.contents source.new ≡ E.contents source.old) }
-        ensures same { OnErr result ((pairs_in self.new ≡ pairs_in self.old)
-            × (end_of self.new ≡ end_of self.old)) }
         ensures cause { IsTrue (E.is_honest source.old) → ChangesRefused
             (X.meaning codecs.now) (location_of given.entry.layout.location)
-            given.entry.layout.shape.now
-            ((given.entry.number, Some given.entry.slice.items) ∷ []) (end_of self.old)
-            (pairs_after (end_of self.old) ((given.entry.number, Some given.entry.slice.items) ∷ [])
-            (pairs_in self.old)) result }
-        ensures refused { E.refused_calls source.new ≡
-            refused_after (E.refused_calls source.old) result }
-        ensures accepted { E.accepted_writes source.new ≡
-            accepted_after (E.accepted_writes source.old) result }
-        ensures rewrites { E.rewrites source.old source.new }
+            given.entry.layout.shape.now (change_given given.entry) (end_of self.old)
+            (pairs_after (end_of self.old) (change_given given.entry) (pairs_in self.old)) result }
+        ensures call { CalledToWrite E.BytesPartialEncoderTraits.own E.BytesPartialDecoderTraits
+            source.old source.new result }
     {
         let number = given.number;
         let length = given.slice.len() as u64;
@@ -166,21 +141,15 @@ impl KnownShard {
         ensures ok { IsTrue (E.is_honest source.old) → OnOk result
             (IsAppended (X.meaning codecs.now) (X.is_function codecs.now)
             (location_of given.entry.layout.location) given.entry.layout.shape.now
-            ((given.entry.number, Some given.entry.slice.items) ∷ []) (end_of self.now)
+            (change_given given.entry) (end_of self.now)
             (pairs_in self.now) (E.contents source.old) (E.contents source.new)
             (end_of self.now + length given.entry.slice.items)) }
-        ensures err { IsTrue (E.is_honest source.old) →
-            OnErr result (E.contents source.new ≡ E.contents source.old) }
         ensures cause { IsTrue (E.is_honest source.old) → ChangesRefused
             (X.meaning codecs.now) (location_of given.entry.layout.location)
-            given.entry.layout.shape.now
-            ((given.entry.number, Some given.entry.slice.items) ∷ []) (end_of self.now)
+            given.entry.layout.shape.now (change_given given.entry) (end_of self.now)
             (pairs_in self.now) result }
-        ensures refused { E.refused_calls source.new ≡
-            refused_after (E.refused_calls source.old) result }
-        ensures accepted { E.accepted_writes source.new ≡
-            accepted_after (E.accepted_writes source.old) result }
-        ensures rewrites { E.rewrites source.old source.new }
+        ensures call { CalledToWrite E.BytesPartialEncoderTraits.own E.BytesPartialDecoderTraits
+            source.old source.new result }
     {
         let layout = given.layout;
         let index = self.pairs.to_index(alloc)?;

@@ -31,13 +31,14 @@ impl KnownShard {
     ghost use Rattle.std.specs.List.{list_all};
     ghost use Rattle.zarr_codecs_meaning.specs.Decoding.{is_absent};
     ghost use Rattle.zarr_codecs_meaning.specs.Encoding.{absent_pair, base_of, index_size};
-    ghost use Rattle.zarr_codecs_traits.specs.Sources.{refused_after};
+    ghost use Rattle.zarr_codecs_traits.specs.Sources.{refused_after, value_length};
     ghost use Rattle.zarr_codecs_traits.specs.Writes.{WriteRefused, accepted_after};
     ghost use Rattle.zarr_grids_boxes.specs.Boxes.{product};
     ghost use Rattle.zarr_sharding_changes.specs.Changes.{appended, pairs_after};
     ghost use Rattle.zarr_sharding_index.specs.Present.{all_pairs};
     ghost use Rattle.zarr_sharding_index.specs.Stored.{index_fits};
     ghost use Rattle.zarr_sharding_index.specs.Views.{location_of};
+    ghost use Rattle.zarr_sharding_state.specs.Calls.{CalledToWrite, KnownAfter};
     ghost use Rattle.zarr_sharding_state.specs.Held.{IsOpened, shard_length};
     ghost use Rattle.zarr_sharding_state.specs.Opened.{OpenRefused};
     ghost use Rattle.zarr_sharding_state.specs.States.{HasSliceAt, end_of, pairs_in, slice_length};
@@ -72,6 +73,8 @@ impl KnownShard {
             refused_after (D.refused_calls source.old) result }
         ensures given { IsTrue (D.is_honest source.old) →
             D.given_bytes source.new ≤ D.given_bytes source.old + layout.entry.size }
+        ensures within { IsTrue (D.is_honest source.old) → D.given_bytes source.new
+            ≤ D.given_bytes source.old + value_length (D.contents source.old) }
         ensures follows { D.follows source.old source.new }
     {
         match fetch_index(alloc, codecs, source, layout) {
@@ -215,29 +218,19 @@ impl KnownShard {
         requires many { product given.layout.shape.now ≡ 2 * length (pairs_in self.old) }
         requires below { list_all (is_below (length (pairs_in self.old))) given.changes.now
             ≡ true }
-        ensures pairs { OnOk result (pairs_in self.new ≡ pairs_after (end_of self.old)
-            (changes_of given.entry.changes.now) (pairs_in self.old)) }
-        ensures room { OnOk result (end_of self.old
-            + length (appended (changes_of given.entry.changes.now)) < 2 ^ 63) }
+        ensures known { KnownAfter (changes_of given.entry.changes.now) self.old self.new result }
         ensures ok { IsTrue (E.is_honest source.old) → OnOk result
             (IsChanged (X.meaning codecs.now) (X.is_function codecs.now)
             (location_of given.entry.layout.location) given.entry.layout.shape.now
             (changes_of given.entry.changes.now) (end_of self.old) (pairs_in self.new)
             (E.contents source.old) (E.contents source.new) (end_of self.new)) }
-        ensures err { IsTrue (E.is_honest source.old) →
-            OnErr result (E.contents source.new ≡ E.contents source.old) }
-        ensures same { OnErr result ((pairs_in self.new ≡ pairs_in self.old)
-            × (end_of self.new ≡ end_of self.old)) }
         ensures cause { IsTrue (E.is_honest source.old) → ChangesRefused
             (X.meaning codecs.now) (location_of given.entry.layout.location)
             given.entry.layout.shape.now (changes_of given.entry.changes.now) (end_of self.old)
             (pairs_after (end_of self.old) (changes_of given.entry.changes.now)
             (pairs_in self.old)) result }
-        ensures refused { E.refused_calls source.new ≡
-            refused_after (E.refused_calls source.old) result }
-        ensures accepted { E.accepted_writes source.new ≡
-            accepted_after (E.accepted_writes source.old) result }
-        ensures rewrites { E.rewrites source.old source.new }
+        ensures call { CalledToWrite E.BytesPartialEncoderTraits.own E.BytesPartialDecoderTraits
+            source.old source.new result }
     {
         let layout = given.layout;
         let changes = given.changes;
@@ -286,18 +279,13 @@ impl KnownShard {
             (E.contents source.new ≡ Some (with_slices (location_of location)
             (end_of self.old) bytes.index.items bytes.slices.items
             (unwrap_or (E.contents source.old) []))) }
-        ensures err { IsTrue (E.is_honest source.old) →
-            OnErr result (E.contents source.new ≡ E.contents source.old) }
         ensures same { OnErr result ((pairs_in self.new ≡ pairs_in self.old)
             × (end_of self.new ≡ end_of self.old)) }
         ensures cause { IsTrue (E.is_honest source.old) → AppendRefused
             (shard_length (location_of location) (length bytes.index.items)
             (end_of self.old + length bytes.slices.items)) result }
-        ensures refused { E.refused_calls source.new ≡
-            refused_after (E.refused_calls source.old) result }
-        ensures accepted { E.accepted_writes source.new ≡
-            accepted_after (E.accepted_writes source.old) result }
-        ensures rewrites { E.rewrites source.old source.new }
+        ensures call { CalledToWrite E.BytesPartialEncoderTraits.own E.BytesPartialDecoderTraits
+            source.old source.new result }
     {
         let end = self.end + bytes.slices.len() as u64;
         match append_bytes(alloc, source, location, self.end, bytes) {

@@ -1,12 +1,11 @@
 //! What replaces the slices of some subchunks.
-ghost use Rattle.std.specs.Prelude.{◌≡◌, ◌+◌, ◌^◌, ◌<◌, ◌≤◌, ◌∷◌, ℕ, List, [], Option, Some, length, true, unwrap_or, IfNone, IfOk, IfSome, IsTrue, OnErr, OnOk};
+ghost use Rattle.std.specs.Prelude.{◌≡◌, ◌+◌, ◌^◌, ◌<◌, ◌≤◌, ◌∷◌, ℕ, List, [], Option, Some, length, true, unwrap_or, IfNone, IfOk, IfSome, IsTrue, OnOk};
 ghost use Rattle.std.specs.List.{list_all};
 ghost use Rattle.zarr_codecs_traits.specs.Patches.{any_too_far, patched_contents, patches_of};
-ghost use Rattle.zarr_codecs_traits.specs.Sources.{refused_after};
-ghost use Rattle.zarr_codecs_traits.specs.Writes.{accepted_after};
 ghost use Rattle.zarr_sharding_changes.specs.Changes.{appended, pairs_after};
 ghost use Rattle.zarr_sharding_index.specs.Present.{all_pairs};
 ghost use Rattle.zarr_sharding_index.specs.Views.{location_of};
+ghost use Rattle.zarr_sharding_state.specs.Calls.{CalledToWrite};
 ghost use Rattle.zarr_sharding_state.specs.Held.{shard_length};
 ghost use Rattle.zarr_sharding_state.specs.Views.{changes_of, is_below};
 ghost use Rattle.zarr_sharding_state.specs.Written.{AppendRefused, with_slices};
@@ -146,16 +145,11 @@ pub(crate) fn append_bytes<E: BytesPartialEncoderTraits>(
     ensures ok { IsTrue (E.is_honest source.old) → OnOk result
         (E.contents source.new ≡ Some (with_slices (location_of location) end
         bytes.index.items bytes.slices.items (unwrap_or (E.contents source.old) []))) }
-    ensures err { IsTrue (E.is_honest source.old) →
-        OnErr result (E.contents source.new ≡ E.contents source.old) }
     ensures cause { IsTrue (E.is_honest source.old) → AppendRefused
         (shard_length (location_of location) (length bytes.index.items)
         (end + length bytes.slices.items)) result }
-    ensures refused { E.refused_calls source.new ≡
-        refused_after (E.refused_calls source.old) result }
-    ensures accepted { E.accepted_writes source.new ≡
-        accepted_after (E.accepted_writes source.old) result }
-    ensures rewrites { E.rewrites source.old source.new }
+    ensures call { CalledToWrite E.BytesPartialEncoderTraits.own E.BytesPartialDecoderTraits
+        source.old source.new result }
 {
     source.partial_encode(alloc, &slice_patches(location, end, &bytes))
 }

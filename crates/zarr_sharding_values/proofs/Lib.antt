@@ -1,3 +1,4 @@
 pub mod ChainCompaction
 pub mod Shown
 pub mod StoredAfresh
+pub mod LocalReads

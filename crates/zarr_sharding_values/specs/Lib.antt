@@ -1,2 +1,3 @@
 pub mod Laws
 pub mod Fresh
+pub mod Local

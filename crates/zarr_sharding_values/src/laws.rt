@@ -1,6 +1,7 @@
-//! Laws of what compaction makes of values of any chain. Each function does nothing: its contract
-//! is the law.
+//! Laws of what compaction makes of values of any chain, and of reads of shards. Each function does
+//! nothing: its contract is the law.
 ghost use Rattle.zarr_sharding_values.specs.Laws.{ChainCompactedStands, ChainCompactedEncoded, StandingUndamaged, EncodedGainsNothing, ChainCompactedShows};
+ghost use Rattle.zarr_sharding_values.specs.Local.{ReadIsLocal};
 
 /// What compaction makes of a value that stands, stands for the same cells.
 pub fn chain_compacted_stands()
@@ -25,4 +26,9 @@ pub fn encoded_gains_nothing()
 /// What compaction makes of a value is read as that value, at each place by itself.
 pub fn chain_compacted_shows()
     ensures { ChainCompactedShows }
+{}
+
+/// A read of places of a shard depends on its length, its index and the slices that it meets alone.
+pub fn read_is_local()
+    ensures { ReadIsLocal }
 {}

@@ -1,5 +1,4 @@
 use Rattle.std.proofs.Common.{◌≡◌, ◌∷◌, ◌≤◌, ◌+◌, ◌∙◌, List, ap, sym, subst, true, Err}
-use Rattle.zarr_codecs_meaning.specs.Fits.{is_plain}
 use Rattle.zarr_codecs_arrays.specs.Views.{elements_of}
 use Rattle.zarr_codecs_array_to_array.specs.Moving.{are_places}
 use Rattle.zarr_codecs_array_to_array.specs.Views.{codec_of}
@@ -10,7 +9,7 @@ use Rattle.zarr_codecs_traits.specs.Outcomes.{DecodesPart}
 use Rattle.zarr_codecs_traits.specs.ReadBytes.{most_of_numbers}
 use Rattle.zarr_codecs_around.specs.ArrayCodecs.{shape_after}
 use Rattle.zarr_codecs_around.specs.MovedNumbers.{numbers_after}
-use Rattle.zarr_codecs_around.specs.Views.{codecs_of, plain_before, with_array_codecs}
+use Rattle.zarr_codecs_around.specs.Views.{codecs_of, with_array_codecs}
 use Rattle.zarr_codecs_around.proofs.MovedNumbers.{lists_all, most_all, unlisted_all}
 use Rattle.zarr_codecs_around.proofs.PartChains.{asked_places, asked_by_numbers}
 use Rattle.zarr_codecs_around.proofs.part_reading.decode_asked_after.Goals as goal
@@ -58,7 +57,7 @@ returns-clause-part g c = λ honest.
     (lists_all codecs rest elements shape stored numbers r c.in-Ok.ensures.fit (asked_places shape asked inside) (subst (λ ns. DecodesPart (coded rest elements (shape_after codecs shape)) stored (listed ns) r) moved read)))
 
 pub returns-clause-given : goal.returns-clause-given
-returns-clause-given g c = λ plain honest.
+returns-clause-given g c = λ honest.
     let D = g.D.BytesPartialDecoderTraits in
     let rest = g.A.ArrayToBytesCodecTraits.meaning c.args.chain.rest.now in
     let codecs = codec_of c.in-Some.first.now ∷ codecs_of c.in-Some.others.now in
@@ -74,6 +73,5 @@ returns-clause-given g c = λ plain honest.
     let moved : c.as_slice-3.result.now ≡ numbers_after codecs shape numbers = c.as_slice-3.ensures.value ∙ (c.in-Ok.ensures.moved_are ∙ ap (numbers_after codecs shape) told) in
     let most : most_of_numbers rest type c.as_slice-2.result.now stored c.as_slice-3.result.now ≡ most_of_numbers (with_array_codecs codecs rest) type shape stored numbers =
     ap (λ es. most_of_numbers rest type es stored c.as_slice-3.result.now) last ∙ (ap (λ ns. most_of_numbers rest type (shape_after codecs shape) stored ns) moved ∙ most_all codecs rest type shape stored numbers) in
-    let inner : is_plain rest ≡ true = sym (plain_before (codecs_of c.args.chain.array_to_array.now) rest) ∙ plain in
     subst (λ (codecs : List ArrayToArrayCodec). new ≤ old + most_of_numbers (with_array_codecs (codecs_of codecs) rest) type shape stored numbers) (sym c.in-Some.ensures.cases.0)
-    (subst (λ n. new ≤ old + n) most (c.decode_numbers.ensures.given inner honest))
+    (subst (λ n. new ≤ old + n) most (c.decode_numbers.ensures.given honest))

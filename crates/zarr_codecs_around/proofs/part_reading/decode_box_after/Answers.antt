@@ -3,7 +3,6 @@ use Rattle.std.proofs.lemmas.List.{map-append}
 use Rattle.zarr_grids_boxes.specs.Boxes.{product}
 use Rattle.zarr_grids_boxes.specs.Subsets.{region_of}
 use Rattle.zarr_codecs_meaning.specs.Chains.{ArrayCodec, Chain}
-use Rattle.zarr_codecs_meaning.specs.Fits.{is_plain}
 use Rattle.zarr_codecs_arrays.specs.Views.{elements_of}
 use Rattle.zarr_codecs_array_to_array.specs.Views.{codec_of}
 use Rattle.zarr_codecs_traits.specs.Indexers.{in_box, shape_has}
@@ -11,7 +10,7 @@ use Rattle.zarr_codecs_traits.specs.Arrays.{coded}
 use Rattle.zarr_codecs_traits.specs.Outcomes.{DecodesPart}
 use Rattle.zarr_codecs_traits.specs.ReadBytes.{most_read}
 use Rattle.zarr_codecs_boxes.specs.Updates.{IsBoxIn}
-use Rattle.zarr_codecs_around.specs.Views.{codecs_of, plain_before, with_array_codecs}
+use Rattle.zarr_codecs_around.specs.Views.{codecs_of, with_array_codecs}
 use Rattle.zarr_codecs_around.proofs.AllArrayCodecs.{with_more}
 use Rattle.zarr_codecs_around.proofs.MovedBoxes.{box_inside, box_places, boxes_most, boxes_unread, unboxed_read}
 use Rattle.zarr_codecs_around.proofs.part_reading.decode_box_after.Goals as goal
@@ -73,7 +72,7 @@ returns-in-Ok-decode_inner_box-clause-part g c = λ honest.
     (c.undo_box.ensures.undone chain stored place.shape.items moved c.in-Ok.ensures read))
 
 pub returns-in-Ok-decode_inner_box-clause-given : goal.returns-in-Ok-decode_inner_box-clause-given
-returns-in-Ok-decode_inner_box-clause-given g c = λ plain honest.
+returns-in-Ok-decode_inner_box-clause-given g c = λ honest.
     let D = g.D.BytesPartialDecoderTraits in
     let rest = g.A.ArrayToBytesCodecTraits.meaning c.args.chain.rest.now in
     let first = codecs_of c.split_boxed.result.0.now in
@@ -89,11 +88,9 @@ returns-in-Ok-decode_inner_box-clause-given g c = λ plain honest.
     let new = D.given_bytes c.decode_inner_box.new.source in
     let box : IsBoxIn shape region = record { dimensions = c.args.part.subset.now.same; inside = c.args.part.inside } in
     let whole = sym (ap codecs_of (sym c.split_boxed.ensures) ∙ map-append codec_of c.split_boxed.result.0.now c.split_boxed.result.1.now) in
-    let all = subst (λ (codecs : List ArrayCodec). is_plain (with_array_codecs codecs rest) ≡ true) (sym whole) plain in
-    let inner : is_plain chain ≡ true = plain_before last rest ∙ (sym (plain_before (codecs_of c.args.chain.array_to_array.now) rest) ∙ plain) in
-    let most = ap (λ es. most_read chain type es stored (in_box moved)) c.as_slice.ensures.value ∙ boxes_most first last rest type shape stored region place.shape.items moved c.requires.any_order all box c.in-Ok.ensures in
+    let most = ap (λ es. most_read chain type es stored (in_box moved)) c.as_slice.ensures.value ∙ boxes_most first last rest type shape stored region place.shape.items moved c.requires.any_order box c.in-Ok.ensures in
     subst (λ (codecs : List ArrayCodec). new ≤ old + most_read (with_array_codecs codecs rest) type shape stored (in_box region)) whole
-    (subst (λ n. new ≤ old + n) most (c.in-Ok-decode_inner_box.ensures.given inner honest))
+    (subst (λ n. new ≤ old + n) most (c.in-Ok-decode_inner_box.ensures.given honest))
 
 pub returns-in-Ok-decode_inner_box-clause-refused : goal.returns-in-Ok-decode_inner_box-clause-refused
 returns-in-Ok-decode_inner_box-clause-refused g c = c.in-Ok-decode_inner_box.ensures.refused ∙ sym (c.undo_box.ensures.no_source (g.D.BytesPartialDecoderTraits.refused_calls c.args.source.now))
@@ -119,7 +116,7 @@ returns-clause-part g c = λ honest.
     (boxes_unread first chain elements shape stored region place.shape.items moved e box c.in-Ok.ensures read))
 
 pub returns-clause-given : goal.returns-clause-given
-returns-clause-given g c = λ plain honest.
+returns-clause-given g c = λ honest.
     let D = g.D.BytesPartialDecoderTraits in
     let rest = g.A.ArrayToBytesCodecTraits.meaning c.args.chain.rest.now in
     let first = codecs_of c.split_boxed.result.0.now in
@@ -135,8 +132,6 @@ returns-clause-given g c = λ plain honest.
     let new = D.given_bytes c.decode_inner_box.new.source in
     let box : IsBoxIn shape region = record { dimensions = c.args.part.subset.now.same; inside = c.args.part.inside } in
     let whole = sym (ap codecs_of (sym c.split_boxed.ensures) ∙ map-append codec_of c.split_boxed.result.0.now c.split_boxed.result.1.now) in
-    let all = subst (λ (codecs : List ArrayCodec). is_plain (with_array_codecs codecs rest) ≡ true) (sym whole) plain in
-    let inner : is_plain chain ≡ true = plain_before last rest ∙ (sym (plain_before (codecs_of c.args.chain.array_to_array.now) rest) ∙ plain) in
-    let most = ap (λ es. most_read chain type es stored (in_box moved)) c.as_slice.ensures.value ∙ boxes_most first last rest type shape stored region place.shape.items moved c.requires.any_order all box c.in-Ok.ensures in
+    let most = ap (λ es. most_read chain type es stored (in_box moved)) c.as_slice.ensures.value ∙ boxes_most first last rest type shape stored region place.shape.items moved c.requires.any_order box c.in-Ok.ensures in
     subst (λ (codecs : List ArrayCodec). new ≤ old + most_read (with_array_codecs codecs rest) type shape stored (in_box region)) whole
-    (subst (λ n. new ≤ old + n) most (c.in-Err-decode_inner_box.ensures.given inner honest))
+    (subst (λ n. new ≤ old + n) most (c.in-Err-decode_inner_box.ensures.given honest))

@@ -1,4 +1,4 @@
-use Rattle.std.proofs.Common.{rules, ◌≡◌, ◌<◌, ◌^◌, ◌∙◌, List, ap, arith, sym, subst, true, Err}
+use Rattle.std.proofs.Common.{rules, ◌≡◌, ◌<◌, ◌^◌, ◌∙◌, List, ap, arith, refl, sym, subst, true, Err}
 use Rattle.std.specs.Prelude.{OnOk}
 use Rattle.std.proofs.lemmas.List.{map-append}
 use Rattle.zarr_grids_boxes.specs.Boxes.{product}
@@ -11,12 +11,13 @@ use Rattle.zarr_codecs_arrays.specs.Views.{elements_of, payload_of}
 use Rattle.zarr_codecs_array_to_array.specs.Views.{codec_of}
 use Rattle.zarr_codecs_traits.specs.Indexers.{in_box, shape_has}
 use Rattle.zarr_codecs_traits.specs.Arrays.{coded, update_of}
-use Rattle.zarr_codecs_traits.specs.PartWriting.{IsEncodedInto, IsPlaced, NotEncodedInto}
+use Rattle.zarr_codecs_traits.specs.PartWriting.{IsEncodedInto}
 use Rattle.zarr_codecs_boxes.specs.Updates.{IsBoxIn}
+use Rattle.zarr_codecs_around.specs.Parts.{WritesPart, source_write}
 use Rattle.zarr_codecs_around.specs.Views.{codecs_of, with_array_codecs}
 use Rattle.zarr_codecs_around.proofs.AllArrayCodecs.{with_more}
-use Rattle.zarr_codecs_around.proofs.MovedBoxes.{boxes_placed, boxes_unwritten, boxes_written, partly_split, turned_inside, turned_places, unturned_into, unturned_source}
-use Rattle.zarr_codecs_around.proofs.WritingAfter.{on_written}
+use Rattle.zarr_codecs_around.proofs.MovedBoxes.{boxes_writes, boxes_written, partly_split, turned_inside, turned_places, unturned_into, unturned_source}
+use Rattle.zarr_codecs_around.proofs.WritingAfter.{on_written, unread_writes}
 use Rattle.zarr_codecs_around.proofs.part_writing.encode_box_after.Goals as goal
 
 pub invariant_of-inner : goal.invariant_of-inner
@@ -43,8 +44,8 @@ encode_inner_box-requires g c =
     let few : product c.as_slice.result.now < 2 ^ 63 = omega (arith, many, small) in
     search (rules, few)
 
-pub returns-in-Err-clause-cause : goal.returns-in-Err-clause-cause
-returns-in-Err-clause-cause g c = λ honest partly.
+pub returns-in-Err-clause-writes : goal.returns-in-Err-clause-writes
+returns-in-Err-clause-writes g c = λ honest partly.
     let rest = g.A.ArrayToBytesCodecTraits.meaning c.args.chain.rest.now in
     let first = codecs_of c.split_boxed.result.0.now in
     let last = codecs_of c.split_boxed.result.1.now in
@@ -52,15 +53,17 @@ returns-in-Err-clause-cause g c = λ honest partly.
     let shape = c.args.part.shape.now in
     let region = region_of c.args.part.subset.now in
     let payload = payload_of c.args.bytes in
-    let old = g.E.BytesPartialDecoderTraits.contents c.args.source.now in
+    let E = g.E.BytesPartialDecoderTraits in
+    let old = E.contents c.args.source.now in
     let e = c.in-Err.error in
+    let source = source_write old (g.E.BytesPartialEncoderTraits.writes_ranges c.args.source.now) (E.given_bytes c.args.source.now) (E.given_bytes c.args.source.now) in
     let box : IsBoxIn shape region = record { dimensions = c.args.part.subset.now.same; inside = c.args.part.inside } in
     let whole = sym (ap codecs_of (sym c.split_boxed.ensures) ∙ map-append codec_of c.split_boxed.result.0.now c.split_boxed.result.1.now) in
     let all = subst (λ (codecs : List ArrayCodec). fits (with_array_codecs codecs rest) elements.type shape ≡ true) (sym whole) c.requires.fits in
     let fit = subst (λ (chain : Chain). fits chain elements.type shape ≡ true) (with_more first last rest) all in
-    subst (λ (codecs : List ArrayCodec). NotEncodedInto {A = Unit {0}} (coded (with_array_codecs codecs rest) elements shape) (update_of (in_box region) payload old) (Err e)) whole
-    (subst (λ (chain : Chain). NotEncodedInto {A = Unit {0}} (coded chain elements shape) (update_of (in_box region) payload old) (Err e)) (sym (with_more first last rest))
-    (unturned_into first (with_array_codecs last rest) elements shape region payload old e box fit c.in-Err.ensures))
+    subst (λ (codecs : List ArrayCodec). WritesPart {A = Unit {0}} (coded (with_array_codecs codecs rest) elements shape) (update_of (in_box region) payload old) source (Err e)) whole
+    (subst (λ (chain : Chain). WritesPart {A = Unit {0}} (coded chain elements shape) (update_of (in_box region) payload old) source (Err e)) (sym (with_more first last rest))
+    (unread_writes (coded (with_array_codecs first (with_array_codecs last rest)) elements shape) (update_of (in_box region) payload old) source e (unturned_into first (with_array_codecs last rest) elements shape region payload old e box fit c.in-Err.ensures) refl))
 
 pub returns-in-Err-clause-refused : goal.returns-in-Err-clause-refused
 returns-in-Err-clause-refused g c =
@@ -93,8 +96,8 @@ returns-clause-ok g c = λ honest.
     ((cells : List Cell) × IsEncodedInto (coded (with_array_codecs first chain) elements shape) exact (update_of (in_box region) payload old) cells new)
     (boxes_written first chain exact elements shape region payload place.shape.items moved made old new box c.in-Ok.ensures) found))
 
-pub returns-clause-placed : goal.returns-clause-placed
-returns-clause-placed g c = λ honest.
+pub returns-clause-writes : goal.returns-clause-writes
+returns-clause-writes g c = λ honest partly.
     let rest = g.A.ArrayToBytesCodecTraits.meaning c.args.chain.rest.now in
     let first = codecs_of c.split_boxed.result.0.now in
     let last = codecs_of c.split_boxed.result.1.now in
@@ -106,36 +109,16 @@ returns-clause-placed g c = λ honest.
     let place = c.in-Ok.moved.place in
     let made = payload_of c.in-Ok.moved.bytes in
     let moved = region_of place.subset in
-    let old = g.E.BytesPartialDecoderTraits.contents c.args.source.now in
+    let E = g.E.BytesPartialDecoderTraits in
+    let old = E.contents c.args.source.now in
     let r = c.encode_inner_box.result in
-    let whole = sym (ap codecs_of (sym c.split_boxed.ensures) ∙ map-append codec_of c.split_boxed.result.0.now c.split_boxed.result.1.now) in
-    let found = subst (λ es. OnOk r (IsPlaced chain es old)) c.as_slice.ensures.value (c.encode_inner_box.ensures.placed honest) in
-    subst (λ (codecs : List ArrayCodec). OnOk r (IsPlaced (with_array_codecs codecs rest) shape old)) whole
-    (subst (λ (chain : Chain). OnOk r (IsPlaced chain shape old)) (sym (with_more first last rest))
-    (on_written r (IsPlaced chain place.shape.items old) (IsPlaced (with_array_codecs first chain) shape old)
-    (boxes_placed first chain elements shape region payload place.shape.items moved made old c.in-Ok.ensures) found))
-
-pub returns-clause-cause : goal.returns-clause-cause
-returns-clause-cause g c = λ honest partly.
-    let rest = g.A.ArrayToBytesCodecTraits.meaning c.args.chain.rest.now in
-    let first = codecs_of c.split_boxed.result.0.now in
-    let last = codecs_of c.split_boxed.result.1.now in
-    let chain = with_array_codecs last rest in
-    let elements = elements_of c.args.part.elements.now in
-    let shape = c.args.part.shape.now in
-    let region = region_of c.args.part.subset.now in
-    let payload = payload_of c.args.bytes in
-    let place = c.in-Ok.moved.place in
-    let made = payload_of c.in-Ok.moved.bytes in
-    let moved = region_of place.subset in
-    let old = g.E.BytesPartialDecoderTraits.contents c.args.source.now in
-    let r = c.encode_inner_box.result in
+    let source = source_write (E.contents c.encode_inner_box.new.source) (g.E.BytesPartialEncoderTraits.writes_ranges c.args.source.now) (E.given_bytes c.args.source.now) (E.given_bytes c.encode_inner_box.new.source) in
     let box : IsBoxIn shape region = record { dimensions = c.args.part.subset.now.same; inside = c.args.part.inside } in
     let whole = sym (ap codecs_of (sym c.split_boxed.ensures) ∙ map-append codec_of c.split_boxed.result.0.now c.split_boxed.result.1.now) in
     let all = subst (λ (codecs : List ArrayCodec). encodes_in_part (with_array_codecs codecs rest) ≡ encodes_in_part rest) (sym whole) partly in
     let two = partly_split first last rest all in
     let each : encodes_in_part (with_array_codecs first chain) ≡ encodes_in_part chain = ap encodes_in_part (sym (with_more first last rest)) ∙ two.0 in
-    let found = subst (λ es. NotEncodedInto (coded chain elements es) (update_of (in_box moved) made old) r) c.as_slice.ensures.value (c.encode_inner_box.ensures.cause honest two.1) in
-    subst (λ (codecs : List ArrayCodec). NotEncodedInto (coded (with_array_codecs codecs rest) elements shape) (update_of (in_box region) payload old) r) whole
-    (subst (λ (chain : Chain). NotEncodedInto (coded chain elements shape) (update_of (in_box region) payload old) r) (sym (with_more first last rest))
-    (boxes_unwritten first chain elements shape region payload place.shape.items moved made old r c.args.part.elements.now.fills box c.in-Ok.ensures each found))
+    let found = subst (λ es. WritesPart (coded chain elements es) (update_of (in_box moved) made old) source r) c.as_slice.ensures.value (c.encode_inner_box.ensures.writes honest two.1) in
+    subst (λ (codecs : List ArrayCodec). WritesPart (coded (with_array_codecs codecs rest) elements shape) (update_of (in_box region) payload old) source r) whole
+    (subst (λ (chain : Chain). WritesPart (coded chain elements shape) (update_of (in_box region) payload old) source r) (sym (with_more first last rest))
+    (boxes_writes first chain elements shape region payload place.shape.items moved made old source r c.args.part.elements.now.fills box c.in-Ok.ensures each found))

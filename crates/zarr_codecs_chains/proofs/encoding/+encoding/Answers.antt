@@ -1,4 +1,4 @@
-use Rattle.std.proofs.Common.{◌≡◌, ◌∙◌, ◌+◌, List, [], ◌∷◌, length, map, ap, sym, subst, arith, true, false, inr, Some, Ok, Err, unwrap_or}
+use Rattle.std.proofs.Common.{◌≡◌, ◌∙◌, ◌+◌, List, [], ◌∷◌, length, map, ap, refl, sym, subst, arith, true, false, inr, Some, Ok, Err, unwrap_or}
 use Rattle.std.specs.List.{list_all}
 use Rattle.zarr_grids_boxes.specs.Boxes.{product}
 use Rattle.zarr_codecs_meaning.specs.Chains.Chain.{optional, vlen}
@@ -207,7 +207,7 @@ encode_optional-returns g t c =
     let suits = options_fit mask values elements.type shape fit in
     let values_fit = subst (λ t. fits values t (0 ∷ []) ≡ true) (ap (λ o. unwrap_or o elements.type) some) (suits.values_fit (0 ∷ [])) in
     let each = g.met.B.BytesToBytesCodecTraits.lawful in
-    makes_encodes chain elements shape payload cells c.encode_parts.result (lawful_of meaning each own.mask_codecs, lawful_of meaning each own.data_codecs) c.args.array.elements.now.fills fit valid
+    makes_encodes chain elements shape payload cells c.encode_parts.result (lawful_of meaning each own.mask_codecs, lawful_of meaning each own.data_codecs) c.args.array.elements.now.fills fit refl valid
     (c.encode_parts.ensures elements cells some suits.takes values_fit valid.is.many split)
 
 pub encode_chosen-returns-then-chosen-eq0 : goal.encode_chosen-returns-then-chosen-eq0

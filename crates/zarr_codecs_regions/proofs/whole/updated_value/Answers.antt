@@ -4,7 +4,7 @@ use Rattle.zarr_codecs_arrays.specs.Views.{elements_of, payload_of}
 use Rattle.zarr_codecs_traits.specs.Indexers.{asked_of}
 use Rattle.zarr_codecs_traits.specs.Sources.{value_bytes}
 use Rattle.zarr_codecs_regions.proofs.Shown.{stored_cells}
-use Rattle.zarr_codecs_regions.proofs.WholeWrites.{encode_refused, encoded_whole, has_updated, update_refused}
+use Rattle.zarr_codecs_regions.proofs.WholeWrites.{encode_refused, encoded_whole, has_updated, kept_gapless, update_refused}
 use Rattle.zarr_codecs_regions.proofs.whole.updated_value.Goals as goal
 
 pub returns-in-Ok-update_array_bytes-clause-ok : goal.returns-in-Ok-update_array_bytes-clause-ok
@@ -34,6 +34,10 @@ returns-in-Ok-update_array_bytes-clause-cause g c =
     let found = c.in-Ok-update_array_bytes.ensures in
     let has = has_updated chain elements (type_of c.data_type.result.now) shape asked payload array made old found.0 found.1 (g.met.C.WholeValues.lawful c.args.codec.now) c.args.part.elements.now.fills c.requires.given
     c.in-Ok.ensures c.data_type.ensures found.2 in encode_refused chain (g.C.WholeValues.is_function c.args.codec.now) elements shape asked payload array made old c.encode_updated.result has c.encode_updated.ensures
+
+pub returns-in-Ok-update_array_bytes-clause-gapless : goal.returns-in-Ok-update_array_bytes-clause-gapless
+returns-in-Ok-update_array_bytes-clause-gapless g c =
+    kept_gapless (g.C.WholeValues.meaning c.args.codec.now) (g.C.WholeValues.is_function c.args.codec.now) (elements_of c.args.part.elements.now) c.args.part.shape.now (payload_of c.in-Ok-update_array_bytes.updated) c.encode_updated.result c.encode_updated.ensures
 
 pub returns-clause-cause : goal.returns-clause-cause
 returns-clause-cause g c =

@@ -12,14 +12,14 @@ use Rattle.zarr_array_elements.specs.declared.box_elements.BoxElements.{BoxEleme
 use Rattle.zarr_array_elements.proofs.FixedPuts.{IsPut, sized_of, length-put, fixed_put}
 use Rattle.zarr_array_elements.proofs.box_elements.BoxElements.put.Goals as goal
 
-pub put_fixed-made-requires-clause-given : goal.put_fixed-made-requires-clause-given
-put_fixed-made-requires-clause-given c =
+pub put_or_take-made-requires-clause-given : goal.put_or_take-made-requires-clause-given
+put_or_take-made-requires-clause-given c =
     let elements = elements_of c.args.elements.now in
     let box : Region = region_of c.args.region.now in
     let at_box : Region = region_of c.args.at.now in
     let old : AreSized elements (product box.shape) c.in-Fixed.width c.in-Fixed.bytes.items = subst (AreShown elements box) c.in-Fixed.is c.requires.shown in
     let are : AreOfBox elements.type (fixed c.in-Fixed-given.given.items) at_box = subst (λ (b : ArrayBytes). AreOfBox elements.type (payload_of b) at_box) c.in-Fixed-given.is c.requires.given in
-    ap length c.as_slice.ensures.value ∙ (sized_of elements.type c.in-Fixed.width at_box c.in-Fixed-given.given.items old.sized are).long
+    (sized_of elements.type c.in-Fixed.width at_box c.in-Fixed-given.given.items old.sized are).long
 
 pub returns-in-Fixed-given-clause-shown : goal.returns-in-Fixed-given-clause-shown
 returns-in-Fixed-given-clause-shown c =
@@ -29,10 +29,10 @@ returns-in-Fixed-given-clause-shown c =
     let at_box : Region = region_of c.args.at.now in
     let before = c.in-Fixed.bytes.items in
     let given = c.in-Fixed-given.given.items in
-    let made = c.put_fixed-made.result.items in
+    let made = c.put_or_take-made.result.items in
     let old : AreSized elements (product box.shape) width before = subst (AreShown elements box) c.in-Fixed.is c.requires.shown in
     let are : AreOfBox elements.type (fixed given) at_box = subst (λ (b : ArrayBytes). AreOfBox elements.type (payload_of b) at_box) c.in-Fixed-given.is c.requires.given in
-    let over : IsOverlaid width box at_box before given made = subst (λ (bs : List ℕ). IsOverlaid width box at_box before bs made) c.as_slice.ensures.value c.put_fixed-made.ensures in
+    let over : IsOverlaid width box at_box before given made = c.put_or_take-made.ensures in
     let put : IsPut width at_box box given before made = record { some = old.some; region_rank = sym c.args.at.now.same; box_rank = sym c.args.region.now.same; given_long = (sized_of elements.type width at_box given old.sized are).long; before_long = old.long; over = over } in
     record { sized = old.sized; some = old.some; long = length-put width at_box box given before made put }
 
@@ -44,12 +44,12 @@ returns-in-Fixed-given-clause-cells c =
     let at_box : Region = region_of c.args.at.now in
     let before = c.in-Fixed.bytes.items in
     let given = c.in-Fixed-given.given.items in
-    let made = c.put_fixed-made.result.items in
+    let made = c.put_or_take-made.result.items in
     let old : AreSized elements (product box.shape) width before = subst (AreShown elements box) c.in-Fixed.is c.requires.shown in
     let are : AreOfBox elements.type (fixed given) at_box = subst (λ (b : ArrayBytes). AreOfBox elements.type (payload_of b) at_box) c.in-Fixed-given.is c.requires.given in
     let sized = sized_of elements.type width at_box given old.sized are in
-    let over : IsOverlaid width box at_box before given made = subst (λ (bs : List ℕ). IsOverlaid width box at_box before bs made) c.as_slice.ensures.value c.put_fixed-made.ensures in
+    let over : IsOverlaid width box at_box before given made = c.put_or_take-made.ensures in
     let put : IsPut width at_box box given before made = record { some = old.some; region_rank = sym c.args.at.now.same; box_rank = sym c.args.region.now.same; given_long = sized.long; before_long = old.long; over = over } in
-    let first : cells_of elements.type (payload_of c.args.given.now) ≡ fixed_cells width given = ap (λ (b : ArrayBytes). cells_of elements.type (payload_of b)) c.in-Fixed-given.is ∙ sized.are in
+    let first : cells_of elements.type (payload_of c.args.given) ≡ fixed_cells width given = ap (λ (b : ArrayBytes). cells_of elements.type (payload_of b)) c.in-Fixed-given.is ∙ sized.are in
     subst (λ (cells : List Cell). ArePutOver elements.fill (cells_at at_box cells) (cells_at box (cells_shown elements c.args.self)) (fixed_cells width made)) (sym first)
     (subst (λ (s : BoxElements). ArePutOver elements.fill (cells_at at_box (fixed_cells width given)) (cells_at box (cells_shown elements s)) (fixed_cells width made)) (sym c.in-Fixed.is) (fixed_put width at_box box given before made elements.fill put))

@@ -25,7 +25,7 @@ pub returns-in-Ok-clause-refused : goal.returns-in-Ok-clause-refused
 returns-in-Ok-clause-refused g c = c.in-Ok.ensures.refused ∙ sym (c.decode_stored_part.ensures.no_source _)
 
 pub returns-in-Ok-clause-given : goal.returns-in-Ok-clause-given
-returns-in-Ok-clause-given g c = λ plain honest.
+returns-in-Ok-clause-given g c = λ honest.
     let meaning = g.B.BytesToBytesCodecTraits.meaning in
     let D = g.D.BytesPartialDecoderTraits in
     let chain = c.args.self.now in
@@ -35,7 +35,7 @@ returns-in-Ok-clause-given g c = λ plain honest.
     codecs_most (g.A.ArrayToBytesCodecTraits.meaning chain.codec) meaning codecs.items (elements_of c.args.part.elements.now).type c.args.part.shape.now (D.contents c.args.source.now) (asked_of c.args.part.indexer) (D.given_bytes c.args.source.now) (D.given_bytes c.read_value.new.source) (λ e. some (same ∙ e)) (c.in-Ok.ensures.given honest)
 
 pub returns-in-Err-clause-given : goal.returns-in-Err-clause-given
-returns-in-Err-clause-given g c = λ plain honest.
+returns-in-Err-clause-given g c = λ honest.
     let meaning = g.B.BytesToBytesCodecTraits.meaning in
     let D = g.D.BytesPartialDecoderTraits in
     let chain = c.args.self.now in

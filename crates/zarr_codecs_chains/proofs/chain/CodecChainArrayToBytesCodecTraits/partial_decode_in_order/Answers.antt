@@ -1,5 +1,4 @@
-use Rattle.std.proofs.Common.{◌≡◌, ◌≤◌, ◌+◌, List, subst, sym, true}
-use Rattle.zarr_codecs_meaning.specs.Fits.{is_plain}
+use Rattle.std.proofs.Common.{◌≤◌, ◌+◌, List, subst}
 use Rattle.zarr_codecs_arrays.specs.Views.{elements_of}
 use Rattle.zarr_codecs_array_to_array.specs.declared.codec.ArrayToArrayCodec.{ArrayToArrayCodec}
 use Rattle.zarr_codecs_traits.specs.Indexers.{asked_of}
@@ -18,10 +17,10 @@ returns-clause-part g c = λ honest.
     c.as_slice-array_to_array.ensures.value (c.decode_part_after.ensures.part honest)
 
 pub returns-clause-given : goal.returns-clause-given
-returns-clause-given g c = λ plain honest.
+returns-clause-given g c = λ honest.
     let D = g.D.BytesPartialDecoderTraits in
     let rest = bytes_meaning g.B.BytesToBytesCodecTraits.meaning c.args.self.now.others in
     let old = D.given_bytes c.args.source.now in
     let new = D.given_bytes c.decode_part_after.new.source in
     subst (λ (codecs : List ArrayToArrayCodec). new ≤ old + most_read (with_array_codecs (codecs_of codecs) rest) (elements_of c.args.part.elements.now).type c.args.part.shape.now (D.contents c.args.source.now) (asked_of c.args.part.indexer)) c.as_slice-array_to_array.ensures.value
-    (c.decode_part_after.ensures.given (subst (λ (codecs : List ArrayToArrayCodec). is_plain (with_array_codecs (codecs_of codecs) rest) ≡ true) (sym c.as_slice-array_to_array.ensures.value) plain) honest)
+    (c.decode_part_after.ensures.given honest)

@@ -1,12 +1,10 @@
-use Rattle.std.proofs.Common.{◌≡◌, ◌∙◌, ap, sym, refl, subst, length, List, ℕ, [], unwrap_or}
+use Rattle.std.proofs.Common.{◌∙◌, ap, sym, refl, subst, length, List, [], unwrap_or}
 use Rattle.zarr_codecs_arrays.specs.Views.{elements_of}
 use Rattle.zarr_codecs_meaning.specs.Chains.{Location}
 use Rattle.zarr_codecs_meaning.specs.Encoding.{Pair, index_size}
-use Rattle.zarr_codecs_meaning.specs.Places.{parts_of}
 use Rattle.zarr_codecs_regions.proofs.AskedPlaces as regions
 use Rattle.zarr_codecs_traits.specs.Indexers.{asked_of, numbers_asked}
 use Rattle.zarr_sharding_codec.specs.Reading.{IsTotalOf, ListsRead, shard_cells}
-use Rattle.zarr_sharding_decoder.specs.Pairs.{index_length}
 use Rattle.zarr_sharding_decoder.specs.Shards.{ShardOf}
 use Rattle.zarr_sharding_index.specs.Present.{all_pairs}
 use Rattle.zarr_sharding_index.specs.Views.{location_of}

@@ -1,10 +1,10 @@
-use Rattle.std.proofs.Common.{◌≡◌, ◌∙◌, ◌*◌, ◌+◌, ◌<◌, ◌^◌, ap, sym, refl, subst, length, IsTrue, List, ℕ, Option, OnErr, OnOk}
+use Rattle.std.proofs.Common.{◌≡◌, ◌∙◌, ◌*◌, ap, sym, subst, IsTrue, List, ℕ, Option, OnErr, OnOk}
 use Rattle.zarr_codecs_arrays.specs.Views.{elements_of}
 use Rattle.zarr_codecs_meaning.specs.Chains.{Location}
 use Rattle.zarr_codecs_meaning.specs.Encoding.{index_size}
 use Rattle.zarr_codecs_meaning.specs.Places.{index_shape}
 use Rattle.zarr_codecs_traits.specs.Indexers.{asked_of, numbers_asked}
-use Rattle.zarr_sharding_changes.specs.Changes.{appended, pairs_after}
+use Rattle.zarr_sharding_changes.specs.Changes.{pairs_after}
 use Rattle.zarr_sharding_codec.specs.PartWriting.{IsOf, put_at}
 use Rattle.zarr_sharding_codec.proofs.EncodedShard.{index_part}
 use Rattle.zarr_sharding_decoder.specs.Shards.{ShardOf}
@@ -73,12 +73,12 @@ invariant_of-self g c =
     let one = g.X.ArrayToBytesCodecTraits.is_function codec.index_codecs in
     let result = c.write_given.result in
     let after_call : IsTrue (g.E.BytesPartialDecoderTraits.is_honest c.update_asked.new.source) → IsAfter result s one changes old new = λ still. record {
-      pairs = c.write_given.ensures.pairs;
-      room = c.write_given.ensures.room;
+      pairs = c.write_given.ensures.known.pairs;
+      room = c.write_given.ensures.known.room;
       written = changed_as result s.index one s.location (location_of c.index_location.result) (index_shape s.shape s.subchunk) pairs_shape changes old.end new.end new.pairs old.contents later new.contents c.index_location.ensures shape_is same
           (subst (λ x. OnOk result (IsChanged (g.X.ArrayToBytesCodecTraits.meaning x) (g.X.ArrayToBytesCodecTraits.is_function x) (location_of c.index_location.result) pairs_shape changes old.end new.pairs later new.contents new.end)) c.index_codecs-codecs.ensures (c.write_given.ensures.ok still));
-      same = c.write_given.ensures.same;
-      err = subst (λ (o : Option (List ℕ)). OnErr result (new.contents ≡ o)) (sym same) (c.write_given.ensures.err still);
+      same = c.write_given.ensures.known.same;
+      err = subst (λ (o : Option (List ℕ)). OnErr result (new.contents ≡ o)) (sym same) (c.write_given.ensures.call.err still);
     } in
     record {
       fit = self.fit;
@@ -86,9 +86,9 @@ invariant_of-self g c =
       cut = self.cut;
       sized = self.sized;
       low = self.low;
-      many = self.many ∙ ap (λ n. 2 * n) (sym (after_count result old.end changes old.pairs new.pairs (new.end ≡ old.end) c.write_given.ensures.pairs c.write_given.ensures.same));
+      many = self.many ∙ ap (λ n. 2 * n) (sym (after_count result old.end changes old.pairs new.pairs (new.end ≡ old.end) c.write_given.ensures.known.pairs c.write_given.ensures.known.same));
       told = λ honest lossless.
-          let still = subst IsTrue (sym (g.met.E.BytesPartialEncoderTraits.still_honest _ _ c.write_given.ensures.rewrites)) honest in
+          let still = subst IsTrue (sym (g.met.E.BytesPartialEncoderTraits.still_honest _ _ c.write_given.ensures.call.rewrites)) honest in
           let before = subst IsTrue (sym (laws.honest _ _ follows)) still in
           told_again s new.contents new.pairs new.end (after_told result s one changes old new (after_call still) count lossless (again_told s old.contents old.pairs old.end (self.told before lossless)));
     }
@@ -118,12 +118,12 @@ returns-in-Ok-clause-ok g c = λ honest told cells valid.
     let one = g.X.ArrayToBytesCodecTraits.is_function codec.index_codecs in
     let result = c.write_given.result in
     let after_call : IsTrue (g.E.BytesPartialDecoderTraits.is_honest c.update_asked.new.source) → IsAfter result s one changes old new = λ still. record {
-      pairs = c.write_given.ensures.pairs;
-      room = c.write_given.ensures.room;
+      pairs = c.write_given.ensures.known.pairs;
+      room = c.write_given.ensures.known.room;
       written = changed_as result s.index one s.location (location_of c.index_location.result) (index_shape s.shape s.subchunk) pairs_shape changes old.end new.end new.pairs old.contents later new.contents c.index_location.ensures shape_is same
           (subst (λ x. OnOk result (IsChanged (g.X.ArrayToBytesCodecTraits.meaning x) (g.X.ArrayToBytesCodecTraits.is_function x) (location_of c.index_location.result) pairs_shape changes old.end new.pairs later new.contents new.end)) c.index_codecs-codecs.ensures (c.write_given.ensures.ok still));
-      same = c.write_given.ensures.same;
-      err = subst (λ (o : Option (List ℕ)). OnErr result (new.contents ≡ o)) (sym same) (c.write_given.ensures.err still);
+      same = c.write_given.ensures.known.same;
+      err = subst (λ (o : Option (List ℕ)). OnErr result (new.contents ≡ o)) (sym same) (c.write_given.ensures.call.err still);
     } in
     let size_is = self.sized ∙ ap (index_size s.index) self.cut in
     let of : IsOf (location_of c.index_location.result) self.size old.contents old.pairs old.end =
@@ -157,12 +157,12 @@ returns-in-Ok-clause-cause g c = λ honest told cells valid.
     let one = g.X.ArrayToBytesCodecTraits.is_function codec.index_codecs in
     let result = c.write_given.result in
     let after_call : IsTrue (g.E.BytesPartialDecoderTraits.is_honest c.update_asked.new.source) → IsAfter result s one changes old new = λ still. record {
-      pairs = c.write_given.ensures.pairs;
-      room = c.write_given.ensures.room;
+      pairs = c.write_given.ensures.known.pairs;
+      room = c.write_given.ensures.known.room;
       written = changed_as result s.index one s.location (location_of c.index_location.result) (index_shape s.shape s.subchunk) pairs_shape changes old.end new.end new.pairs old.contents later new.contents c.index_location.ensures shape_is same
           (subst (λ x. OnOk result (IsChanged (g.X.ArrayToBytesCodecTraits.meaning x) (g.X.ArrayToBytesCodecTraits.is_function x) (location_of c.index_location.result) pairs_shape changes old.end new.pairs later new.contents new.end)) c.index_codecs-codecs.ensures (c.write_given.ensures.ok still));
-      same = c.write_given.ensures.same;
-      err = subst (λ (o : Option (List ℕ)). OnErr result (new.contents ≡ o)) (sym same) (c.write_given.ensures.err still);
+      same = c.write_given.ensures.known.same;
+      err = subst (λ (o : Option (List ℕ)). OnErr result (new.contents ≡ o)) (sym same) (c.write_given.ensures.call.err still);
     } in
     let size_is = self.sized ∙ ap (index_size s.index) self.cut in
     let of : IsOf (location_of c.index_location.result) self.size old.contents old.pairs old.end =

@@ -1,4 +1,4 @@
-use Rattle.std.proofs.Common.{◌≡◌, ◌∙◌, ◌%◌, ap, sym, refl, subst, arith, length, Bool, IsTrue, Option, List, ℕ, OnErr}
+use Rattle.std.proofs.Common.{◌≡◌, ◌∙◌, ◌%◌, ap, sym, refl, subst, arith, length, Bool, IsTrue, Option, List, ℕ, OnErr, Err}
 use Rattle.std.proofs.lemmas.Bool.{and_parts}
 use Rattle.zarr_grids_boxes.specs.Boxes.{product}
 use Rattle.zarr_codecs_arrays.specs.Views.{elements_of, payload_of}
@@ -19,7 +19,7 @@ use Rattle.zarr_sharding_inner.specs.Orders.{is_row_major}
 use Rattle.zarr_sharding_codec.specs.Views.{makes_a_function}
 use Rattle.zarr_sharding_codec.proofs.DecodedShard.{even_index}
 use Rattle.zarr_sharding_codec.proofs.EncodedShard.{index_part}
-use Rattle.zarr_sharding_codec.proofs.PartAppended.{IsRead, appended_read, not_opened, not_updated, not_written, placed_read, read_of, read_valid}
+use Rattle.zarr_sharding_codec.proofs.PartAppended.{IsRead, appended_read, not_opened, not_updated, not_written, read_of, read_valid, taken_read, taken_unopened}
 use Rattle.zarr_sharding_codec.proofs.StoredLoop.{rank_fits}
 use Rattle.zarr_sharding_codec.proofs.codec.ShardingCodec.append_part.Goals as goal
 
@@ -247,21 +247,6 @@ returns-in-Ok-update_asked-clause-ok g c = λ honest.
     appended_read subchunk inner index location exact elements shape asked payload size numbers pairs_shape given old later pairs end h same one whole (g.E.BytesPartialDecoderTraits.contents c.append_changes.new.source) c.in-Ok-update_asked.changes.items c.in-Ok-update_asked.changes.items c.append_changes.result refl to_exact
     (c.in-Ok-update_asked.ensures.changes still of tested.cells (subst (λ p. IsValid elements.type p (length numbers) tested.cells) (sym c.in_ok-bytes.ensures) valid)) last (laws.same _ _ both) (c.append_changes.ensures.ok (subst IsTrue (laws.honest _ _ both) honest))
 
-pub returns-in-Ok-update_asked-clause-placed : goal.returns-in-Ok-update_asked-clause-placed
-returns-in-Ok-update_asked-clause-placed g c = λ honest.
-    let self = c.args.self.now in
-    let inner = g.I.ArrayToBytesCodecTraits.meaning self.inner_codecs in
-    let index = g.X.ArrayToBytesCodecTraits.meaning self.index_codecs in
-    let shape_is = c.as_slice.ensures.value ∙ c.in_ok-pairs_shape.ensures in
-    let old = g.E.BytesPartialDecoderTraits.contents c.args.source.now in
-    placed_read self.subchunk_shape inner index (location_of self.index_location) c.args.part.shape.now c.as_slice.result.now old (pairs_in c.in-Ok.known) (end_of c.in-Ok.known) c.append_changes.result shape_is (c.in-Ok.ensures.opened honest)
-
-pub returns-in-Ok-update_asked-clause-err : goal.returns-in-Ok-update_asked-clause-err
-returns-in-Ok-update_asked-clause-err g c = λ honest.
-    let laws = g.met.E.BytesPartialDecoderTraits in
-    let both = laws.goes_on _ _ _ c.in-Ok.ensures.follows c.in-Ok-update_asked.ensures.follows in
-    subst (λ (o : Option (List ℕ)). OnErr c.append_changes.result (g.E.BytesPartialDecoderTraits.contents c.append_changes.new.source ≡ o)) (sym (laws.same _ _ both)) (c.append_changes.ensures.err (subst IsTrue (laws.honest _ _ both) honest))
-
 pub returns-in-Ok-update_asked-clause-cause : goal.returns-in-Ok-update_asked-clause-cause
 returns-in-Ok-update_asked-clause-cause g c = λ honest.
     let self = c.args.self.now in
@@ -299,19 +284,137 @@ returns-in-Ok-update_asked-clause-cause g c = λ honest.
     let of = read_of subchunk inner index location exact elements shape asked payload size numbers pairs_shape given old later pairs end h same in
     let valid = read_valid subchunk inner index location exact elements shape asked payload size numbers pairs_shape given old later pairs end h same in
     let both = laws.goes_on _ _ _ c.in-Ok.ensures.follows c.in-Ok-update_asked.ensures.follows in
-    not_written subchunk inner index location exact elements shape asked payload size numbers pairs_shape given old later pairs end h same (changes_of c.in-Ok-update_asked.changes.items) c.append_changes.result (c.append_changes.ensures.cause (subst IsTrue (laws.honest _ _ both) honest))
+    not_written subchunk inner index location exact elements shape asked payload size numbers pairs_shape given old later pairs end h same (changes_of c.in-Ok-update_asked.changes.items) c.append_changes.result
+    (c.in-Ok-update_asked.ensures.changes still of tested.cells (subst (λ p. IsValid elements.type p (length numbers) tested.cells) (sym c.in_ok-bytes.ensures) valid)) (c.append_changes.ensures.cause (subst IsTrue (laws.honest _ _ both) honest))
 
-pub returns-in-Ok-update_asked-clause-refused : goal.returns-in-Ok-update_asked-clause-refused
-returns-in-Ok-update_asked-clause-refused g c = c.append_changes.ensures.refused ∙ ap (λ n. refused_after n c.append_changes.result) (c.in-Ok-update_asked.ensures.refused ∙ c.in-Ok.ensures.refused)
+pub returns-clause-call : goal.returns-clause-call
+returns-clause-call g c =
+    let laws = g.met.E.BytesPartialDecoderTraits in
+    let follows = c.in-Err.ensures.follows in
+    record {
+      err = λ honest. sym (laws.same _ _ follows);
+      refused = c.in-Err.ensures.refused;
+      accepted = sym (g.met.E.BytesPartialEncoderTraits.unwritten _ _ follows);
+      rewrites = g.met.E.BytesPartialEncoderTraits.reads _ _ follows;
+    }
 
-pub returns-in-Ok-update_asked-clause-accepted : goal.returns-in-Ok-update_asked-clause-accepted
-returns-in-Ok-update_asked-clause-accepted g c =
+pub returns-in-Ok-clause-call : goal.returns-in-Ok-clause-call
+returns-in-Ok-clause-call g c =
+    let laws = g.met.E.BytesPartialDecoderTraits in
+    let both = laws.goes_on _ _ _ c.in-Ok.ensures.follows c.in-Err-update_asked.ensures.follows in
+    record {
+      err = λ honest. sym (laws.same _ _ both);
+      refused = c.in-Err-update_asked.ensures.refused ∙ ap (λ n. refused_after {A = Bool} n (Err c.in-Err-update_asked.error)) c.in-Ok.ensures.refused;
+      accepted = sym (g.met.E.BytesPartialEncoderTraits.unwritten _ _ both);
+      rewrites = g.met.E.BytesPartialEncoderTraits.reads _ _ both;
+    }
+
+pub returns-in-Ok-update_asked-clause-call : goal.returns-in-Ok-update_asked-clause-call
+returns-in-Ok-update_asked-clause-call g c =
     let laws = g.met.E.BytesPartialDecoderTraits in
     let both = laws.goes_on _ _ _ c.in-Ok.ensures.follows c.in-Ok-update_asked.ensures.follows in
-    c.append_changes.ensures.accepted ∙ ap (λ n. accepted_by n c.append_changes.result) (sym (g.met.E.BytesPartialEncoderTraits.unwritten _ _ both))
+    let call = c.append_changes.ensures.call in
+    record {
+      err = λ honest. subst (λ (o : Option (List ℕ)). OnErr c.append_changes.result (g.E.BytesPartialDecoderTraits.contents c.append_changes.new.source ≡ o)) (sym (laws.same _ _ both)) (call.err (subst IsTrue (laws.honest _ _ both) honest));
+      refused = call.refused ∙ ap (λ n. refused_after n c.append_changes.result) (c.in-Ok-update_asked.ensures.refused ∙ c.in-Ok.ensures.refused);
+      accepted = call.accepted ∙ ap (λ n. accepted_by n c.append_changes.result) (sym (g.met.E.BytesPartialEncoderTraits.unwritten _ _ both));
+      rewrites = g.met.E.BytesPartialEncoderTraits.writes_on _ _ _ (g.met.E.BytesPartialEncoderTraits.reads _ _ both) call.rewrites;
+    }
 
-pub returns-in-Ok-update_asked-clause-rewrites : goal.returns-in-Ok-update_asked-clause-rewrites
-returns-in-Ok-update_asked-clause-rewrites g c =
+pub returns-clause-given : goal.returns-clause-given
+returns-clause-given g c = λ honest ranges.
+    let self = c.args.self.now in
+    let subchunk = self.subchunk_shape in
+    let inner = g.I.ArrayToBytesCodecTraits.meaning self.inner_codecs in
+    let index = g.X.ArrayToBytesCodecTraits.meaning self.index_codecs in
+    let location = location_of self.index_location in
+    let elements = elements_of c.args.part.elements.now in
+    let shape = c.args.part.shape.now in
+    let tested = c.requires.tested in
+    let shape_is = c.as_slice.ensures.value ∙ c.in_ok-pairs_shape.ensures in
+    let asked = asked_of c.args.part.indexer in
+    let payload = payload_of c.args.tested.bytes.now in
+    let size = c.args.tested.size in
+    let numbers = numbers_asked shape asked in
     let laws = g.met.E.BytesPartialDecoderTraits in
+    let D = g.E.BytesPartialDecoderTraits in
+    let old = D.contents c.args.source.now in
+    taken_unopened subchunk inner index location elements shape asked payload size numbers old (D.given_bytes c.args.source.now) (D.given_bytes c.open.new.source) tested (c.in-Err.ensures.given honest) (c.in-Err.ensures.within honest)
+
+pub returns-in-Ok-clause-given : goal.returns-in-Ok-clause-given
+returns-in-Ok-clause-given g c = λ honest ranges.
+    let self = c.args.self.now in
+    let subchunk = self.subchunk_shape in
+    let inner = g.I.ArrayToBytesCodecTraits.meaning self.inner_codecs in
+    let index = g.X.ArrayToBytesCodecTraits.meaning self.index_codecs in
+    let location = location_of self.index_location in
+    let elements = elements_of c.args.part.elements.now in
+    let shape = c.args.part.shape.now in
+    let tested = c.requires.tested in
+    let shape_is = c.as_slice.ensures.value ∙ c.in_ok-pairs_shape.ensures in
+    let asked = asked_of c.args.part.indexer in
+    let payload = payload_of c.args.tested.bytes.now in
+    let size = c.args.tested.size in
+    let numbers = numbers_asked shape asked in
+    let laws = g.met.E.BytesPartialDecoderTraits in
+    let D = g.E.BytesPartialDecoderTraits in
+    let old = D.contents c.args.source.now in
+    let exact = g.I.ArrayToBytesCodecTraits.is_function self.inner_codecs in
+    let pairs_shape = c.as_slice.result.now in
+    let pairs = pairs_in c.in-Ok.known in
+    let end = end_of c.in-Ok.known in
+    let later = D.contents c.open.new.source in
+    let same = laws.same _ _ c.in-Ok.ensures.follows in
+    let still = subst IsTrue (laws.honest _ _ c.in-Ok.ensures.follows) honest in
+    let h : IsRead subchunk inner index location elements shape asked payload size numbers pairs_shape numbers old pairs end = record {
+      lawful = (g.met.I.ArrayToBytesCodecTraits.lawful self.inner_codecs, g.met.X.ArrayToBytesCodecTraits.lawful self.index_codecs);
+      fill = c.args.part.elements.now.fills;
+      tested = tested;
+      shape_is = shape_is;
+      given_is = refl;
+      opened = c.in-Ok.ensures.opened honest;
+      many = c.in-Ok.ensures.many;
+    } in
+    taken_read subchunk inner index location exact elements shape asked payload size numbers pairs_shape numbers old later pairs end h same (D.given_bytes c.args.source.now) (D.given_bytes c.open.new.source) (D.given_bytes c.update_asked.new.source)
+    (c.in-Ok.ensures.given honest) (c.in-Ok.ensures.within honest) (c.in-Err-update_asked.ensures.given still)
+
+pub returns-in-Ok-update_asked-clause-given : goal.returns-in-Ok-update_asked-clause-given
+returns-in-Ok-update_asked-clause-given g c = λ honest ranges.
+    let self = c.args.self.now in
+    let subchunk = self.subchunk_shape in
+    let inner = g.I.ArrayToBytesCodecTraits.meaning self.inner_codecs in
+    let index = g.X.ArrayToBytesCodecTraits.meaning self.index_codecs in
+    let location = location_of self.index_location in
+    let elements = elements_of c.args.part.elements.now in
+    let shape = c.args.part.shape.now in
+    let tested = c.requires.tested in
+    let shape_is = c.as_slice.ensures.value ∙ c.in_ok-pairs_shape.ensures in
+    let asked = asked_of c.args.part.indexer in
+    let payload = payload_of c.args.tested.bytes.now in
+    let size = c.args.tested.size in
+    let numbers = numbers_asked shape asked in
+    let laws = g.met.E.BytesPartialDecoderTraits in
+    let D = g.E.BytesPartialDecoderTraits in
+    let old = D.contents c.args.source.now in
+    let exact = g.I.ArrayToBytesCodecTraits.is_function self.inner_codecs in
+    let pairs_shape = c.as_slice.result.now in
+    let pairs = pairs_in c.in-Ok.known in
+    let end = end_of c.in-Ok.known in
+    let later = D.contents c.open.new.source in
+    let same = laws.same _ _ c.in-Ok.ensures.follows in
+    let still = subst IsTrue (laws.honest _ _ c.in-Ok.ensures.follows) honest in
+    let h : IsRead subchunk inner index location elements shape asked payload size numbers pairs_shape numbers old pairs end = record {
+      lawful = (g.met.I.ArrayToBytesCodecTraits.lawful self.inner_codecs, g.met.X.ArrayToBytesCodecTraits.lawful self.index_codecs);
+      fill = c.args.part.elements.now.fills;
+      tested = tested;
+      shape_is = shape_is;
+      given_is = refl;
+      opened = c.in-Ok.ensures.opened honest;
+      many = c.in-Ok.ensures.many;
+    } in
     let both = laws.goes_on _ _ _ c.in-Ok.ensures.follows c.in-Ok-update_asked.ensures.follows in
-    g.met.E.BytesPartialEncoderTraits.writes_on _ _ _ (g.met.E.BytesPartialEncoderTraits.reads _ _ both) c.append_changes.ensures.rewrites
+    let writes = subst IsTrue (g.met.E.BytesPartialEncoderTraits.still_ranges _ _ (g.met.E.BytesPartialEncoderTraits.reads _ _ both)) ranges in
+    let taken = taken_read subchunk inner index location exact elements shape asked payload size numbers pairs_shape numbers old later pairs end h same (D.given_bytes c.args.source.now) (D.given_bytes c.open.new.source) (D.given_bytes c.update_asked.new.source)
+    (c.in-Ok.ensures.given honest) (c.in-Ok.ensures.within honest) (c.in-Ok-update_asked.ensures.given still) in
+    let kept = c.append_changes.ensures.given writes in
+    omega (arith, taken, kept)

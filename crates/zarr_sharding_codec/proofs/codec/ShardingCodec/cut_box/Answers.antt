@@ -14,9 +14,13 @@ use Rattle.zarr_sharding_index.specs.Views.{location_of}
 use Rattle.zarr_sharding_codec.specs.BoxReading.{AreMet}
 use Rattle.zarr_sharding_codec.specs.Pieces.{ReadsMore, asked_part, asked_piece}
 use Rattle.zarr_sharding_codec.specs.Reading.{IsTotalOf}
+use Rattle.zarr_sharding_codec.proofs.BoxRead.{given_begun, given_done}
 use Rattle.zarr_sharding_codec.proofs.CutPart.{can_ask}
+use Rattle.zarr_sharding_codec.proofs.GivenCuts.{box_given}
+use Rattle.zarr_sharding_codec.proofs.PartFound.{shard_asked}
 use Rattle.zarr_sharding_codec.proofs.PlacesCut.{BoxDone, box_all, box_either, box_reads}
 use Rattle.zarr_sharding_codec.proofs.SlicesRead.{none_read, not_stopped, read_all, read_next, read_stopped, was_stopped}
+use Rattle.zarr_sharding_codec.proofs.SoFarRead.{askable}
 use Rattle.zarr_sharding_codec.proofs.StoredLoop.{rank_fits}
 use Rattle.zarr_sharding_codec.proofs.codec.ShardingCodec.cut_box.Goals as goal
 
@@ -91,6 +95,7 @@ loop-j-init g c =
       refused = refl;
       goes_on = c.in_ok-pieces.ensures.goes_on;
       read = λ honest told. none_read part (BoxDone part c.as_slice-met.result.now 0) c.in_ok-pieces.pieces c.in_ok-pieces.ensures (λ t done. let low = done.1 in omega (arith, low));
+      given = λ honest. given_begun (shard_asked (asked_part array (in_box (region_of c.args.asked.region.now)) [] pairs)) c.as_slice-met.result.now (g.D.BytesPartialDecoderTraits.given_bytes c.args.source.now);
     }
 
 pub loop-j-preserved : goal.loop-j-preserved
@@ -130,6 +135,11 @@ loop-j-preserved g c =
           let read = subst (λ (o : Option (List ℕ)). ReadsMore (unwrap_or o []) (asked_piece pair k slots) c.loop-j.pieces after) (sym same) (more.more still (subst (λ (o : Option (List ℕ)). IsTotalOf o pairs c.args.shard.total) same told)) in
           read_next part k slots pair c.loop-j.pieces after low refl (box_reads part region refl k cut c.in_ok-inside.ensures) (BoxDone part met j) (BoxDone part met (j + 1)) (inv.read honest told) read none
           (box_either part region refl met j k cut refl c.in_ok-inside.ensures);
+      given = λ honest.
+          let s = shard_asked (asked_part array (in_box region) [] pairs) in
+          let can = askable s index location c.requires.fit c.requires.many (regions.asked_places shape (in_box region) c.requires.inside) in
+          let count = g.D.BytesPartialDecoderTraits.given_bytes in
+          box_given s region met cut (count c.args.source.now) (count c.loop-j.source) (count c.read_more.new.source) j can are refl c.loop-j-test.true c.in_ok-inside.ensures (inv.given honest) (more.given (subst IsTrue (laws.honest _ _ inv.follows) honest));
     }
 
 pub returns-then-is_some : goal.returns-then-is_some
@@ -167,6 +177,12 @@ returns-then-is_some g c =
           let read = subst (λ (o : Option (List ℕ)). ReadsMore (unwrap_or o []) (asked_piece pair k slots) c.loop-j.pieces after) (sym same) (more.more still (subst (λ (o : Option (List ℕ)). IsTotalOf o pairs c.args.shard.total) same told)) in
           read_stopped part k slots pair c.loop-j.pieces after low refl (box_reads part region refl k cut c.in_ok-inside.ensures) (BoxDone part met j) can inv.goes_on (inv.read honest told) read some;
       refused = more.refused ∙ ap (λ n. refused_by_pieces n after.stopped) inv.refused;
+      given = λ honest.
+          let s = shard_asked (asked_part array (in_box region) [] pairs) in
+          let can = askable s index location c.requires.fit c.requires.many (regions.asked_places shape (in_box region) c.requires.inside) in
+          let count = g.D.BytesPartialDecoderTraits.given_bytes in
+          given_done s met (count c.args.source.now) (count c.read_more.new.source) (j + 1)
+          (box_given s region met cut (count c.args.source.now) (count c.loop-j.source) (count c.read_more.new.source) j can are refl c.loop-j-test.true c.in_ok-inside.ensures (inv.given honest) (more.given (subst IsTrue (laws.honest _ _ inv.follows) honest)));
       follows = laws.goes_on _ _ _ inv.follows more.follows;
     }
 
@@ -190,8 +206,43 @@ returns g c =
           let part = asked_part array (in_box region) (unwrap_or (g.D.BytesPartialDecoderTraits.contents c.args.source.now) []) pairs in
           read_all part (BoxDone part met j) c.loop-j.pieces (inv.read honest told) inv.goes_on (box_all part region refl met j are c.loop-j-test.false);
       refused = inv.refused ∙ sym (ap (refused_by_pieces (g.D.BytesPartialDecoderTraits.refused_calls c.args.source.now)) inv.goes_on);
+      given = λ honest.
+          given_done (shard_asked (asked_part array (in_box region) [] pairs)) met (g.D.BytesPartialDecoderTraits.given_bytes c.args.source.now) (g.D.BytesPartialDecoderTraits.given_bytes c.loop-j.source) j (inv.given honest);
       follows = inv.follows;
     }
 
 pub returns-in_err-pieces-2-clause-follows : goal.returns-in_err-pieces-2-clause-follows
 returns-in_err-pieces-2-clause-follows g c = g.met.D.BytesPartialDecoderTraits.goes_on _ _ _ c.loop-j.invariant.follows c.in_err-pieces-2.ensures.follows
+
+pub returns-in_err-pieces-2-clause-given : goal.returns-in_err-pieces-2-clause-given
+returns-in_err-pieces-2-clause-given g c = λ honest.
+    let self = c.args.self.now in
+    let subchunk = self.subchunk_shape in
+    let inner = g.I.ArrayToBytesCodecTraits.meaning self.inner_codecs in
+    let index = g.X.ArrayToBytesCodecTraits.meaning self.index_codecs in
+    let location = location_of self.index_location in
+    let laws = g.met.D.BytesPartialDecoderTraits in
+    let inv = c.loop-j.invariant in
+    let shape = c.args.asked.shape.now in
+    let region = region_of c.args.asked.region.now in
+    let met = c.as_slice-met.result.now in
+    let j = c.loop-j.j in
+    let are = subst (λ (ns : List ℕ). AreMet shape subchunk (numbers_of shape region) ns) (sym c.as_slice-met.ensures.value) c.in_ok-found.ensures in
+    let array = coded (sharded subchunk inner index location) (elements_of c.args.shard.elements.now) shape in
+    let s = shard_asked (asked_part array (in_box region) [] (all_pairs c.args.shard.pairs.now)) in
+    let can = askable s index location c.requires.fit c.requires.many (regions.asked_places shape (in_box region) c.requires.inside) in
+    let count = g.D.BytesPartialDecoderTraits.given_bytes in
+    given_done s met (count c.args.source.now) (count c.read_more.new.source) (j + 1)
+    (box_given s region met c.in_ok-inside.field-0 (count c.args.source.now) (count c.loop-j.source) (count c.read_more.new.source) j can are refl c.loop-j-test.true c.in_ok-inside.ensures (inv.given honest)
+    (c.in_err-pieces-2.ensures.given (subst IsTrue (laws.honest _ _ inv.follows) honest)))
+
+pub returns-in_err-inside-clause-given : goal.returns-in_err-inside-clause-given
+returns-in_err-inside-clause-given g c = λ honest.
+    let self = c.args.self.now in
+    let subchunk = self.subchunk_shape in
+    let inner = g.I.ArrayToBytesCodecTraits.meaning self.inner_codecs in
+    let index = g.X.ArrayToBytesCodecTraits.meaning self.index_codecs in
+    let location = location_of self.index_location in
+    let array = coded (sharded subchunk inner index location) (elements_of c.args.shard.elements.now) c.args.asked.shape.now in
+    let s = shard_asked (asked_part array (in_box (region_of c.args.asked.region.now)) [] (all_pairs c.args.shard.pairs.now)) in
+    given_done s c.as_slice-met.result.now (g.D.BytesPartialDecoderTraits.given_bytes c.args.source.now) (g.D.BytesPartialDecoderTraits.given_bytes c.loop-j.source) c.loop-j.j (c.loop-j.invariant.given honest)

@@ -3,6 +3,7 @@ use Rattle.zarr_codecs_arrays.specs.Views.{elements_of}
 use Rattle.zarr_codecs_meaning.specs.Chains.{sharded}
 use Rattle.zarr_codecs_meaning.specs.Places.{grid_of, index_shape}
 use Rattle.zarr_codecs_meaning.proofs.Parts.{length-parts}
+use Rattle.zarr_codecs_regions.proofs.AskedPlaces.{asked_places}
 use Rattle.zarr_codecs_traits.specs.Arrays.{coded}
 use Rattle.zarr_codecs_traits.specs.Indexers.{asked_of, numbers_asked}
 use Rattle.zarr_grids_boxes.specs.Boxes.{product}
@@ -11,6 +12,8 @@ use Rattle.zarr_sharding_index.specs.Views.{location_of}
 use Rattle.zarr_sharding_codec.specs.Pieces.{ArePartRead, asked_part}
 use Rattle.zarr_sharding_codec.specs.Reading.{HasPairs}
 use Rattle.zarr_sharding_codec.proofs.EncodedShard.{index_part}
+use Rattle.zarr_sharding_codec.proofs.GivenCuts.{value_taken}
+use Rattle.zarr_sharding_codec.proofs.MostTaken.{index_taken}
 use Rattle.zarr_sharding_codec.proofs.PartsRead.{fetched_nothing, fetched_value, part_filled, value_total}
 use Rattle.zarr_sharding_codec.proofs.StoredLoop.{rank_fits}
 use Rattle.zarr_sharding_codec.proofs.codec.ShardingCodec.cut_part.Goals as goal
@@ -81,3 +84,85 @@ returns-in_ok-filled-in-Ok-None-clause-part g c = λ honest.
     let none = fetched_nothing index location (index_shape shape subchunk) contents c.in-Ok-None.field-0 c.in-Ok-None.field-0-is (c.in-Ok-None.ensures.index honest) in
     part_filled (sharded subchunk inner index location) elements shape contents (numbers_asked shape asked) asked c.in_ok-filled-in-Ok-None.filled c.requires.fit c.requires.inside refl none
     (c.in_ok-filled-in-Ok-None.ensures ∙ ap (λ k. Some (replicate k elements.fill)) c.in-Some.ensures.some)
+
+pub returns-in_ok-cut_asked-in-Ok-Some-clause-given : goal.returns-in_ok-cut_asked-in-Ok-Some-clause-given
+returns-in_ok-cut_asked-in-Ok-Some-clause-given g c = λ honest.
+    let self = c.args.self.now in
+    let subchunk = self.subchunk_shape in
+    let inner = g.I.ArrayToBytesCodecTraits.meaning self.inner_codecs in
+    let index = g.X.ArrayToBytesCodecTraits.meaning self.index_codecs in
+    let location = location_of self.index_location in
+    let D = g.D.BytesPartialDecoderTraits in
+    let shape = c.args.part.shape.now in
+    let asked = asked_of c.args.part.indexer in
+    let first = c.in-Ok-Some.ensures in
+    let opened = fetched_value index location (index_shape shape subchunk) (D.contents c.args.source.now) c.in-Ok-Some.field-0 c.in-Ok-Some.fetched c.in-Ok-Some.field-0-is (first.index honest) in
+    let still = subst IsTrue (g.met.D.BytesPartialDecoderTraits.honest _ _ first.follows) honest in
+    let many = subst (HasPairs (product (grid_of shape subchunk))) c.in-Ok-Some.field-0-is first.many ∙ sym (length-parts shape subchunk) in
+    value_taken subchunk inner index location (elements_of c.args.part.elements.now) shape (D.contents c.args.source.now) opened.value (numbers_asked shape asked) (all_pairs c.in-Ok-Some.fetched.pairs) c.args.size (D.given_bytes c.args.source.now) (D.given_bytes c.open_index.new.source) (D.given_bytes c.cut_asked.new.source)
+    opened.is c.requires.fit many (asked_places shape asked c.requires.inside) opened.held.is c.requires.size (first.given honest) (c.in_ok-cut_asked-in-Ok-Some.ensures.given still)
+
+pub returns-in_err-cut_asked-in-Ok-Some-clause-given : goal.returns-in_err-cut_asked-in-Ok-Some-clause-given
+returns-in_err-cut_asked-in-Ok-Some-clause-given g c = λ honest.
+    let self = c.args.self.now in
+    let subchunk = self.subchunk_shape in
+    let inner = g.I.ArrayToBytesCodecTraits.meaning self.inner_codecs in
+    let index = g.X.ArrayToBytesCodecTraits.meaning self.index_codecs in
+    let location = location_of self.index_location in
+    let D = g.D.BytesPartialDecoderTraits in
+    let shape = c.args.part.shape.now in
+    let asked = asked_of c.args.part.indexer in
+    let first = c.in-Ok-Some.ensures in
+    let opened = fetched_value index location (index_shape shape subchunk) (D.contents c.args.source.now) c.in-Ok-Some.field-0 c.in-Ok-Some.fetched c.in-Ok-Some.field-0-is (first.index honest) in
+    let still = subst IsTrue (g.met.D.BytesPartialDecoderTraits.honest _ _ first.follows) honest in
+    let many = subst (HasPairs (product (grid_of shape subchunk))) c.in-Ok-Some.field-0-is first.many ∙ sym (length-parts shape subchunk) in
+    value_taken subchunk inner index location (elements_of c.args.part.elements.now) shape (D.contents c.args.source.now) opened.value (numbers_asked shape asked) (all_pairs c.in-Ok-Some.fetched.pairs) c.args.size (D.given_bytes c.args.source.now) (D.given_bytes c.open_index.new.source) (D.given_bytes c.cut_asked.new.source)
+    opened.is c.requires.fit many (asked_places shape asked c.requires.inside) opened.held.is c.requires.size (first.given honest) (c.in_err-cut_asked-in-Ok-Some.ensures.given still)
+
+pub returns-in_ok-filled-in-Ok-None-clause-given : goal.returns-in_ok-filled-in-Ok-None-clause-given
+returns-in_ok-filled-in-Ok-None-clause-given g c = λ honest.
+    let self = c.args.self.now in
+    let subchunk = self.subchunk_shape in
+    let inner = g.I.ArrayToBytesCodecTraits.meaning self.inner_codecs in
+    let index = g.X.ArrayToBytesCodecTraits.meaning self.index_codecs in
+    let location = location_of self.index_location in
+    let D = g.D.BytesPartialDecoderTraits in
+    let shape = c.args.part.shape.now in
+    let first = c.in-Ok-None.ensures in
+    index_taken subchunk inner index location (elements_of c.args.part.elements.now).type shape (D.contents c.args.source.now) (numbers_asked shape (asked_of c.args.part.indexer)) c.args.size (D.given_bytes c.args.source.now) (D.given_bytes c.open_index.new.source) c.requires.size (first.given honest) (first.within honest)
+
+pub returns-in_err-filled-in-Ok-None-clause-given : goal.returns-in_err-filled-in-Ok-None-clause-given
+returns-in_err-filled-in-Ok-None-clause-given g c = λ honest.
+    let self = c.args.self.now in
+    let subchunk = self.subchunk_shape in
+    let inner = g.I.ArrayToBytesCodecTraits.meaning self.inner_codecs in
+    let index = g.X.ArrayToBytesCodecTraits.meaning self.index_codecs in
+    let location = location_of self.index_location in
+    let D = g.D.BytesPartialDecoderTraits in
+    let shape = c.args.part.shape.now in
+    let first = c.in-Ok-None.ensures in
+    index_taken subchunk inner index location (elements_of c.args.part.elements.now).type shape (D.contents c.args.source.now) (numbers_asked shape (asked_of c.args.part.indexer)) c.args.size (D.given_bytes c.args.source.now) (D.given_bytes c.open_index.new.source) c.requires.size (first.given honest) (first.within honest)
+
+pub returns-in_default-clause-given : goal.returns-in_default-clause-given
+returns-in_default-clause-given g c = λ honest.
+    let self = c.args.self.now in
+    let subchunk = self.subchunk_shape in
+    let inner = g.I.ArrayToBytesCodecTraits.meaning self.inner_codecs in
+    let index = g.X.ArrayToBytesCodecTraits.meaning self.index_codecs in
+    let location = location_of self.index_location in
+    let D = g.D.BytesPartialDecoderTraits in
+    let shape = c.args.part.shape.now in
+    let first = c.in-Ok-None.ensures in
+    index_taken subchunk inner index location (elements_of c.args.part.elements.now).type shape (D.contents c.args.source.now) (numbers_asked shape (asked_of c.args.part.indexer)) c.args.size (D.given_bytes c.args.source.now) (D.given_bytes c.open_index.new.source) c.requires.size (first.given honest) (first.within honest)
+
+pub returns-in-Err-clause-given : goal.returns-in-Err-clause-given
+returns-in-Err-clause-given g c = λ honest.
+    let self = c.args.self.now in
+    let subchunk = self.subchunk_shape in
+    let inner = g.I.ArrayToBytesCodecTraits.meaning self.inner_codecs in
+    let index = g.X.ArrayToBytesCodecTraits.meaning self.index_codecs in
+    let location = location_of self.index_location in
+    let D = g.D.BytesPartialDecoderTraits in
+    let shape = c.args.part.shape.now in
+    let first = c.in-Err.ensures in
+    index_taken subchunk inner index location (elements_of c.args.part.elements.now).type shape (D.contents c.args.source.now) (numbers_asked shape (asked_of c.args.part.indexer)) c.args.size (D.given_bytes c.args.source.now) (D.given_bytes c.open_index.new.source) c.requires.size (first.given honest) (first.within honest)

@@ -12,7 +12,8 @@ use Rattle.zarr_sharding_index.proofs.StoredIndex.{index_below}
 use Rattle.zarr_sharding_inner.specs.Orders.{is_row_major}
 use Rattle.zarr_sharding_codec.specs.Assembled.{Assembles}
 use Rattle.zarr_sharding_codec.specs.Slices.{slice_of}
-use Rattle.zarr_sharding_codec.proofs.EncodedShard.{assembled_encodes, base_small, index_part}
+use Rattle.zarr_sharding_codec.proofs.EncodedShard.{assembled_encodes, index_part}
+use Rattle.zarr_sharding_codec.proofs.Gapless.{base_small}
 use Rattle.zarr_sharding_codec.proofs.StoredLoop.{rank_fits}
 use Rattle.zarr_sharding_codec.proofs.codec.ShardingCodec.join_slices.Goals as goal
 

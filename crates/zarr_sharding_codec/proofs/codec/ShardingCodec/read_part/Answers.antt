@@ -1,16 +1,20 @@
-use Rattle.std.proofs.Common.{◌∙◌, ap, sym, refl, subst, IsTrue, Option, Some, List, ℕ, replicate}
+use Rattle.std.proofs.Common.{◌≤◌, ◌+◌, ◌∙◌, ap, sym, refl, subst, IsTrue, Option, Some, List, ℕ, replicate}
 use Rattle.zarr_codecs_arrays.specs.Views.{elements_of}
 use Rattle.zarr_codecs_meaning.specs.Chains.{sharded}
 use Rattle.zarr_codecs_meaning.specs.Places.{grid_of, index_shape}
+use Rattle.zarr_codecs_meaning.proofs.Fitting.{fitted}
 use Rattle.zarr_codecs_meaning.proofs.Parts.{length-parts}
+use Rattle.zarr_codecs_regions.proofs.AskedPlaces.{asked_places}
 use Rattle.zarr_codecs_traits.specs.Indexers.{asked_of, numbers_asked}
 use Rattle.zarr_codecs_traits.specs.Arrays.{coded}
 use Rattle.zarr_codecs_traits.specs.Outcomes.{DecodesPart}
+use Rattle.zarr_codecs_traits.specs.ReadBytes.{most_of_numbers}
 use Rattle.zarr_grids_boxes.specs.Boxes.{product}
 use Rattle.zarr_sharding_index.specs.Present.{all_pairs}
 use Rattle.zarr_sharding_index.specs.Views.{location_of}
 use Rattle.zarr_sharding_codec.specs.Reading.{HasPairs}
 use Rattle.zarr_sharding_codec.proofs.EncodedShard.{index_part}
+use Rattle.zarr_sharding_codec.proofs.MostTaken.{slices_taken}
 use Rattle.zarr_sharding_codec.proofs.PartsRead.{fetched_nothing, fetched_value, part_filled, part_found, value_read, value_total}
 use Rattle.zarr_sharding_codec.proofs.StoredLoop.{rank_fits}
 use Rattle.zarr_sharding_codec.proofs.codec.ShardingCodec.read_part.Goals as goal
@@ -67,3 +71,24 @@ returns-in_ok-fill_elements-in-Ok-None-clause-part g c = λ honest.
     part_filled (sharded self.subchunk_shape inner index location) (elements_of c.args.part.elements.now) shape contents (numbers_asked shape asked) asked c.in_ok-fill_elements-in-Ok-None.field-0
     c.requires.fit c.requires.inside refl none
     (c.in_ok-fill_elements-in-Ok-None.ensures ∙ ap (λ k. Some (replicate k (elements_of c.args.part.elements.now).fill)) c.in-Some.ensures.some)
+
+pub returns-in-Ok-Some-clause-given : goal.returns-in-Ok-Some-clause-given
+returns-in-Ok-Some-clause-given g c = λ honest.
+    let self = c.args.self.now in
+    let subchunk = self.subchunk_shape in
+    let D = g.D.BytesPartialDecoderTraits in
+    let inner = g.I.ArrayToBytesCodecTraits.meaning self.inner_codecs in
+    let index = g.X.ArrayToBytesCodecTraits.meaning self.index_codecs in
+    let location = location_of self.index_location in
+    let elements = elements_of c.args.part.elements.now in
+    let shape = c.args.part.shape.now in
+    let asked = asked_of c.args.part.indexer in
+    let numbers = numbers_asked shape asked in
+    let first = c.in-Ok-Some.ensures in
+    let contents = D.contents c.args.source.now in
+    let opened = fetched_value index location (index_shape shape subchunk) contents c.in-Ok-Some.field-0 c.in-Ok-Some.fetched c.in-Ok-Some.field-0-is (first.index honest) in
+    let still = subst IsTrue (g.met.D.BytesPartialDecoderTraits.honest _ _ first.follows) honest in
+    let many = subst (HasPairs (product (grid_of shape subchunk))) c.in-Ok-Some.field-0-is first.many ∙ sym (length-parts shape subchunk) in
+    subst (λ (stored : Option (List ℕ)). D.given_bytes c.read_asked.new.source ≤ D.given_bytes c.args.source.now + most_of_numbers (sharded subchunk inner index location) elements.type shape stored numbers) (sym opened.is)
+    (slices_taken subchunk inner index location elements.type shape opened.value numbers (all_pairs c.in-Ok-Some.fetched.pairs) c.args.size (D.given_bytes c.args.source.now) (D.given_bytes c.open_index.new.source) (D.given_bytes c.read_asked.new.source)
+    (fitted subchunk inner index location elements shape c.requires.fit).cuts many (asked_places shape asked c.requires.inside) opened.held.is c.requires.size (first.given honest) (c.read_asked.ensures.given still))

@@ -10,7 +10,7 @@ use Rattle.zarr_codecs_traits.specs.Indexers.{numbers_of}
 use Rattle.zarr_sharding_index.specs.Views.{location_of, pairs_of}
 use Rattle.zarr_sharding_places.specs.Locating.{part_shape, subchunk_box}
 use Rattle.zarr_sharding_codec.specs.Slices.{slice_of}
-use Rattle.zarr_sharding_codec.proofs.EncodedShard.{base_small}
+use Rattle.zarr_sharding_codec.proofs.Gapless.{base_small}
 use Rattle.zarr_sharding_codec.proofs.NumberedParts.{part_at, part_fits, region_numbers}
 use Rattle.zarr_sharding_codec.proofs.StoredLoop.{is_subchunk, piece_valid, rank_fits, refused_step, stored_end, stored_step}
 use Rattle.zarr_sharding_codec.proofs.codec.ShardingCodec.store_pieces.Goals as goal

@@ -38,14 +38,16 @@ replace-requires g c =
     let small = self.small in
     ap (λ (ps : List Pair). is_absent (get_or ps c.args.given.number absent_pair)) c.in_ok-put.ensures.ok ∙ present_there (pairs_in self) c.args.given.number self.end c.len-length.result c.requires.below (omega (arith, small))
 
-pub returns-in-Err-clause-same : goal.returns-in-Err-clause-same
-returns-in-Err-clause-same g c =
+pub returns-in-Err-clause-known : goal.returns-in-Err-clause-known
+returns-in-Err-clause-known g c =
     let self = c.args.self.now in
     let number = c.args.given.number in
-    let pair : Pair = (self.end, c.len-length.result) in (
-      c.replace.ensures
-          ∙ (ap (λ (pairs : List Pair). set pairs number (pair_of c.get-before.result)) c.in_ok-put.ensures.ok
-          ∙ (ap (λ (p : Pair). set (set (pairs_in self) number pair) number p) c.get-before.ensures
-          ∙ put_back (pairs_in self) number pair absent_pair c.requires.below)),
-      refl,
-    )
+    let pair : Pair = (self.end, c.len-length.result) in
+    let back : all_pairs c.replace.new.self ≡ pairs_in self = c.replace.ensures ∙ (ap (λ (pairs : List Pair). set pairs number (pair_of c.get-before.result)) c.in_ok-put.ensures.ok
+    ∙ (ap (λ (p : Pair). set (set (pairs_in self) number pair) number p) c.get-before.ensures
+    ∙ put_back (pairs_in self) number pair absent_pair c.requires.below)) in
+    record {
+      pairs = tt;
+      room = tt;
+      same = (back, refl);
+    }

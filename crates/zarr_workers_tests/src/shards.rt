@@ -1,26 +1,22 @@
 //! Shards encoded and decoded with workers: subchunks by several threads.
 
+use crate::samples::{WaitingChain, are_ones, chain};
 use crate::waiting_codec::WaitingCodec;
 use std::alloc::Global;
 use std::marker::Sync;
 use std::thread::Threads;
 use zarr_codecs::{
-    ArrayBytes, ArrayToBytesCodec, ArrayToBytesCodecTraits, BytesCodec, CodecChain, CodecError,
-    CodecOptions, Elements, FillValue, WholeArray, data_type,
+    ArrayBytes, ArrayToBytesCodecTraits, CodecError, CodecOptions, Elements, FillValue, WholeArray,
+    data_type,
 };
 use zarr_grids::ChunkShape;
 use zarr_sharding::{ShardingCodec, ShardingIndexLocation};
 
-type Chain = CodecChain<WaitingCodec>;
-
-/// The chain of `bytes` and these codecs.
-fn chain(alloc: Global, codecs: Vec<WaitingCodec>) -> Chain {
-    let bytes = ArrayToBytesCodec::Bytes(BytesCodec::little());
-    CodecChain::new(Vec::new(alloc), bytes, codecs)
-}
+/// How many cells a shard has.
+const CELLS: usize = 1 << 22;
 
 /// Shards of subchunks of 256 KiB, which are encoded by `bytes` and the codec that waits.
-fn shards(alloc: Global, codec: WaitingCodec) -> Option<ShardingCodec<Chain, Chain>> {
+fn shards(alloc: Global, codec: WaitingCodec) -> Option<ShardingCodec<WaitingChain, WaitingChain>> {
     let shape = ChunkShape::new(vec![in alloc; 1u64 << 18].ok()?).ok()?;
     let inner = chain(alloc, vec![in alloc; codec].ok()?);
     let index = chain(alloc, Vec::new(alloc));
@@ -37,10 +33,10 @@ fn coded<R: Threads + Sync, C: ArrayToBytesCodecTraits + Sync>(
     let elements = Elements::new(data_type::uint8(), FillValue::from_u8(alloc, 0).ok()?)?;
     let array = WholeArray {
         elements: &elements,
-        shape: &[1 << 22],
+        shape: &[CELLS as u64],
     };
     let options = &CodecOptions::default().with_workers(workers);
-    let cells = ArrayBytes::Fixed(vec![in alloc; 1u8; 1 << 22].ok()?);
+    let cells = ArrayBytes::Fixed(vec![in alloc; 1u8; CELLS].ok()?);
     match codec.encode(rt, alloc, cells, array, options) {
         Ok(value) => Some(codec.decode(rt, alloc, value, array, options)),
         Err(error) => Some(Err(error)),
@@ -58,24 +54,16 @@ fn outcome(
     coded(rt, alloc, &codec, workers)
 }
 
-/// Whether these are the ones.
-fn are_ones(read: &ArrayBytes) -> bool {
-    match read {
-        ArrayBytes::Fixed(bytes) => bytes.len() == 1 << 22 && bytes.iter().all(|byte| *byte == 1),
-        _ => false,
-    }
-}
-
 #[test]
 fn subchunks_are_decoded_by_several_threads(rt: HostRuntime) {
     let found = outcome(&rt, rt.alloc(), (0, 1 << 26), true);
-    assert!(rt; matches!(&found, Some(Ok(read)) if are_ones(read)));
+    assert!(rt; matches!(&found, Some(Ok(read)) if are_ones(read, CELLS)));
 }
 
 #[test]
 fn subchunks_are_encoded_by_several_threads(rt: HostRuntime) {
     let found = outcome(&rt, rt.alloc(), (1 << 26, 0), true);
-    assert!(rt; matches!(&found, Some(Ok(read)) if are_ones(read)));
+    assert!(rt; matches!(&found, Some(Ok(read)) if are_ones(read, CELLS)));
 }
 
 #[test]

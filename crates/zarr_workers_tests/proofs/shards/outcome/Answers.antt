@@ -2,11 +2,11 @@ use denote.Exit.{no}
 use denote.Param.Send.{IsSync, arg_sync, param_sync, sendable}
 use denote.RattleType.{RattleType}
 use Rattle.std.proofs.Crossing.{crosses}
-use Rattle.zarr_run_tests.specs.contracts.waiting_codec.WaitingCodec as waiting
+use Rattle.zarr_workers_tests.specs.contracts.waiting_codec.WaitingCodec as waiting
 use Rattle.zarr_sharding_arrays.proofs.Crossing.{plain_sync}
 use Rattle.zarr_sharding_codec.proofs.codec.ShardingCodec.TheSendSync as shard
 use Rattle.zarr_sharding_codec.specs.contracts.codec.ShardingCodec as sharding
-use Rattle.zarr_run_tests.proofs.shards.outcome.Goals as goal
+use Rattle.zarr_workers_tests.proofs.shards.outcome.Goals as goal
 
 shard_sync : (I X : RattleType) → IsSync I → IsSync X → IsSync (sharding.the_row I X)
 shard_sync I X i x = search (shard.the_sync, crosses, sendable) depth 60 fits 20000

@@ -3,12 +3,12 @@
 use std::alloc::{AllocError, Global};
 use std::sync::atomic::{AtomicU64, Ordering};
 use std::thread;
-use zarr_run::{
+use zarr_codecs::{
     BytesRepresentation, BytesToBytesCodecTraits, CodecError, MetadataV3, PluginCreateError,
 };
 
 /// The codec `x-wait`: it leaves bytes as they are. Encoding or decoding waits until a second piece
-/// has come; after so many turns, and for the bytes 9, 9 to decode, it has no memory.
+/// has come, and has no memory where none has after so many turns.
 #[derive(Drop)]
 pub(crate) struct WaitingCodec {
     arrived: AtomicU64,
@@ -44,7 +44,7 @@ impl WaitingCodec {
 
 impl BytesToBytesCodecTraits for WaitingCodec {
     ghost use Rattle.std.specs.Prelude.{refl};
-    ghost use Rattle.zarr_run_tests.specs.Waiting.{waiting, waiting_point, reads_waiting, reads_waiting_lawful, waiting_lawful};
+    ghost use Rattle.zarr_workers_tests.specs.Waiting.{waiting, waiting_point, reads_waiting, reads_waiting_lawful, waiting_lawful};
 
     ghost meaning = { λ codec. waiting };
 
@@ -60,7 +60,7 @@ impl BytesToBytesCodecTraits for WaitingCodec {
     }
 
     fn decode(&self, alloc: Global, bytes: &[u8]) -> Result<Vec<u8>, CodecError> {
-        if !self.has_company(self.decoding_turns) || bytes == [9, 9].as_slice() {
+        if !self.has_company(self.decoding_turns) {
             return Err(CodecError::Memory);
         }
         Ok(bytes.to_vec(alloc)?)

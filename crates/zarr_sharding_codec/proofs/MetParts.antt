@@ -1,0 +1,89 @@
+-- Which subchunks places lie in, told by the subchunks' numbers and by their places.
+use Rattle.std.proofs.Common.{◌≡◌, ◌∙◌, ℕ, suc, ◌+◌, ◌<◌, List, [], ◌∷◌, length, get_or, ap, sym, refl, subst, arith, Bool, true, false, ◌&&◌, ◌||◌, ◌==◌, if◌then◌else◌}
+use Rattle.std.specs.Prelude.{nat_lt, not, sum_by}
+use Rattle.std.specs.List.{list_all, range_with_len}
+use Rattle.std.proofs.lemmas.Bool.{and_parts, eq-eqb, eqb-true, lt-ltb, ltb-true}
+use Rattle.std.proofs.lemmas.List.Sums.{sum_by-cons}
+use Rattle.zarr_grids_boxes.specs.Boxes.{product}
+use Rattle.zarr_codecs_meaning.specs.Decoding.{is_absent}
+use Rattle.zarr_codecs_meaning.specs.Encoding.{Pair, absent_pair}
+use Rattle.zarr_codecs_meaning.specs.Fits.{can_cut}
+use Rattle.zarr_codecs_meaning.specs.Places.{Part, parts_of, position_of}
+use Rattle.zarr_codecs_meaning.proofs.Parts.{no_part}
+use Rattle.zarr_codecs_meaning.proofs.PartsOnce.{number_in}
+use Rattle.zarr_codecs_meaning.proofs.Positions.{among_at, position_found, position_read}
+use Rattle.zarr_codecs_traits.specs.PartWriting.{is_met}
+use Rattle.zarr_codecs_traits.specs.ReadBytes.{slices_met}
+use Rattle.zarr_sharding_places.specs.Locating.{inside_of, subchunk_of}
+use Rattle.zarr_sharding_state.specs.States.{slice_length}
+use Rattle.zarr_sharding_codec.specs.BytesMet as counted
+use Rattle.zarr_sharding_codec.specs.BytesMet.{bytes_met, met_length}
+use Rattle.zarr_sharding_codec.proofs.LocatedParts.{located_place}
+use Rattle.zarr_sharding_codec.proofs.PutPieces.{place_tells, places_at}
+
+-- ---- whether a place lies in a subchunk
+
+both_ways : (one other : Bool) → (one ≡ true → other ≡ true) → (other ≡ true → one ≡ true) → one ≡ other
+both_ways true other first second = sym (first refl)
+both_ways false true first second = second refl
+both_ways false false first second = refl
+
+-- it does where the number of its subchunk is this one
+pub place_met : (shape subchunk : List ℕ) (k n : ℕ) → can_cut shape subchunk ≡ true → k < length (parts_of shape subchunk) → n < product shape → nat_lt (position_of n (places_at shape subchunk k)) (length (places_at shape subchunk k)) ≡ (subchunk_of shape subchunk n == k)
+place_met shape subchunk k n cuts there below =
+    let places = places_at shape subchunk k in
+    both_ways (nat_lt (position_of n places) (length places)) (subchunk_of shape subchunk n == k)
+    (λ inside.
+    let low : position_of n places < length places = ltb-true (position_of n places) (length places) inside in
+    let here : number_in (parts_of shape subchunk) k (position_of n places) ≡ n = position_read n 0 places low in
+    let tells = place_tells shape subchunk k (position_of n places) cuts (record { part = there; place = low }) in
+    eq-eqb (subchunk_of shape subchunk n) k (ap (subchunk_of shape subchunk) (sym here) ∙ tells.part))
+    (λ is.
+    let same : subchunk_of shape subchunk n ≡ k = eqb-true (subchunk_of shape subchunk n) k is in
+    let located = located_place shape subchunk n cuts below in
+    let i = inside_of shape subchunk n in
+    let in_part : i < length places = subst (λ (j : ℕ). i < length (places_at shape subchunk j)) same located.place in
+    let here : get_or places i 0 ≡ n = subst (λ (j : ℕ). get_or (places_at shape subchunk j) i 0 ≡ n) same located.here in
+    lt-ltb (position_of n places) (length places) (position_found n places (among_at places i n in_part here)))
+
+-- so is it whether one of several places does
+pub met_alike : (shape subchunk numbers : List ℕ) (k : ℕ) → can_cut shape subchunk ≡ true → k < length (parts_of shape subchunk) → list_all (λ n. nat_lt n (product shape)) numbers ≡ true → counted.is_met shape subchunk numbers k ≡ is_met numbers (get_or (parts_of shape subchunk) k no_part)
+met_alike shape subchunk [] k cuts there below = refl
+met_alike shape subchunk (n ∷ ns) k cuts there below =
+    let both = and_parts (nat_lt n (product shape)) (list_all (λ m. nat_lt m (product shape)) ns) below in
+    let part = get_or (parts_of shape subchunk) k no_part in
+    ap (λ (b : Bool). b || counted.is_met shape subchunk ns k) (sym (place_met shape subchunk k n cuts there (ltb-true n (product shape) both.0)))
+    ∙ ap (λ (b : Bool). nat_lt (position_of n part.places) (length part.places) || b) (met_alike shape subchunk ns k cuts there both.1)
+
+-- ---- how many bytes their slices have
+
+-- how many bytes a pair's slice has, if it is met and present
+abbrev taken_of : List ℕ → Part → Pair → ℕ
+taken_of numbers part pair = if is_met numbers part && not (is_absent pair) then pair.1 else 0
+
+one_or_none : (met gone : Bool) (n : ℕ) → (if met then (if gone then 0 else n) else 0) ≡ (if met && not gone then n else 0)
+one_or_none true true n = refl
+one_or_none true false n = refl
+one_or_none false gone n = refl
+
+-- a sum by numbers is one by parts and pairs
+sum_by_parts : (numbers : List ℕ) (parts : List Part) (pairs : List Pair) (count : ℕ → ℕ) (first : ℕ) → length pairs ≡ length parts → ((i : ℕ) → i < length pairs → count (first + i) ≡ taken_of numbers (get_or parts i no_part) (get_or pairs i absent_pair))
+    → sum_by count (range_with_len first (length pairs)) ≡ slices_met numbers parts pairs
+sum_by_parts numbers [] [] count first many each = refl
+sum_by_parts numbers [] (pair ∷ pairs) count first many each = absurd (omega (arith, many))
+sum_by_parts numbers (part ∷ parts) [] count first many each = absurd (omega (arith, many))
+sum_by_parts numbers (part ∷ parts) (pair ∷ pairs) count first many each =
+    let here : first ≡ first + 0 = omega arith in
+    let next : (i : ℕ) → first + 1 + i ≡ first + suc i = λ i. omega arith in
+    sum_by-cons count first (range_with_len (first + 1) (length pairs))
+    ∙ (ap (λ n. n + sum_by count (range_with_len (first + 1) (length pairs))) (ap count here ∙ each 0 (omega arith))
+    ∙ ap (λ n. taken_of numbers part pair + n) (sum_by_parts numbers parts pairs count (first + 1) (omega (arith, many)) (λ i low. ap count (next i) ∙ each (suc i) (omega (arith, low)))))
+
+pub bytes_alike : (shape subchunk numbers : List ℕ) (pairs : List Pair) → can_cut shape subchunk ≡ true → length pairs ≡ length (parts_of shape subchunk) → list_all (λ n. nat_lt n (product shape)) numbers ≡ true → bytes_met shape subchunk numbers pairs ≡ slices_met numbers (parts_of shape subchunk) pairs
+bytes_alike shape subchunk numbers pairs cuts many below =
+    sum_by_parts numbers (parts_of shape subchunk) pairs (met_length shape subchunk numbers pairs) 0 many (λ i low.
+    let pair = get_or pairs i absent_pair in
+    let part = get_or (parts_of shape subchunk) i no_part in
+    let start : 0 + i ≡ i = omega arith in
+    ap (met_length shape subchunk numbers pairs) start
+    ∙ (ap (λ (b : Bool). if b then slice_length pair else 0) (met_alike shape subchunk numbers i cuts (omega (arith, low, many)) below) ∙ one_or_none (is_met numbers part) (is_absent pair) pair.1))
