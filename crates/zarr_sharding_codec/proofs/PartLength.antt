@@ -150,7 +150,9 @@ module _ (subchunk : List ℕ) (inner index : Chain) (location : Location) (exac
   part_appended one whole new (Err e) to_exact made = tt
   part_appended one whole new (Ok false) to_exact made = (made.0, was_placed, lacks_room made.1)
   part_appended one whole new (Ok true) to_exact made = (
-    (h.tested.cells,
-      part_encoded subchunk inner index location exact one whole elements shape asked payload size numbers old new h.tested (ready_appended subchunk inner index location exact one elements shape asked payload size numbers old new pairs end made.1.0 changes h made.0 made.1.1) to_exact),
+    (
+      h.tested.cells,
+      part_encoded subchunk inner index location exact one whole elements shape asked payload size numbers old new h.tested (ready_appended subchunk inner index location exact one elements shape asked payload size numbers old new pairs end made.1.0 changes h made.0 made.1.1) to_exact,
+    ),
     leaves_parts one new made.1.0 made.0 made.1.1,
   )

@@ -70,12 +70,16 @@ pub read_is_local : ReadIsLocal
 read_is_local read inner elements value other same = go (pairs_read read value) refl where
   chain : Chain
   chain = sharded read.subchunk inner read.index read.location
+
   parts : List Part
   parts = parts_of read.shape read.subchunk
+
   cells : List ℕ → List (Option Cell)
   cells bytes = map (cell_at chain elements read.shape bytes) read.numbers
+
   part_of : Option (List Pair) → List ℕ → Option (List Cell)
   part_of found bytes = if is_some found then all_there (cells bytes) else None
+
   go : (found : Option (List Pair)) → pairs_read read value ≡ found → part_of (pairs_read read other) other ≡ part_of (pairs_read read value) value
   go None is = ap (λ (o : Option (List Pair)). part_of o other) (same_pairs read value other same ∙ is) ∙ sym (ap (λ (o : Option (List Pair)). part_of o value) is)
   go (Some pairs) is =
