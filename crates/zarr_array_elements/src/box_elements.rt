@@ -11,7 +11,7 @@ use crate::cutting::element_width;
 use crate::numbered::NumberedElements;
 use crate::putting::put_or_take;
 use std::alloc::{AllocError, Global};
-use zarr_codecs_arrays::{ArrayBytes, CodecError, Elements};
+use zarr_codecs_arrays::{ArrayBytes, Elements};
 use zarr_grids_boxes::ArraySubset;
 use zarr_grids_boxes::walk::count_places;
 
@@ -125,7 +125,7 @@ fn filled_fixed(
     ensures cells { IfOk result (λ shown. cells_shown (elements_of elements.now) shown
         ≡ replicate count (elements_of elements.now).fill) }
 {
-    match ArrayBytes::new_fill_value(alloc, elements, count) {
+    match ArrayBytes::fill_values(alloc, elements, count as usize) {
         Ok(ArrayBytes::Fixed(bytes)) => Ok(BoxElements::Fixed(bytes, width)),
         _ => Err(AllocError),
     }

@@ -57,14 +57,12 @@ impl NumberedElements {
             ≡ replicate count (elements_of elements.now).fill) }
     {
         let numbers = vec![in alloc; 0u64; count]?;
-        match ArrayBytes::new_fill_value(alloc, elements, 1) {
-            Ok(fill) => Ok(NumberedElements {
-                elements: fill,
-                count: 1,
-                numbers,
-            }),
-            Err(_) => Err(AllocError),
-        }
+        let fill = ArrayBytes::fill_values(alloc, elements, 1)?;
+        Ok(NumberedElements {
+            elements: fill,
+            count: 1,
+            numbers,
+        })
     }
 
     /// The elements of a box after those of a box `at` that is not empty and lies in it were put

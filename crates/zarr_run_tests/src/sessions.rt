@@ -189,6 +189,7 @@ fn test_session<const TAKES_RANGES: bool>(
         inner: MemoryStore::new(alloc),
         calls_before,
         fetches: 0,
+        bytes: 0,
         patches: 0,
     };
     Session::new(alloc, store)

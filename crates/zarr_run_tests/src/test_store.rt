@@ -6,16 +6,31 @@ use zarr_run::{
     WritableStorageTraits,
 };
 
-/// A store in memory that counts the values of chunks of the array at `/a` that were fetched, and
-/// the calls of `set_partial`, and takes ranges or none. After some calls of `get` it gives one
-/// other value: the last of its bytes but two is 9 there, which in a document is the number of its
-/// format.
+/// A store in memory that counts, of the chunks of the array at `/a`, the values fetched and the
+/// bytes given, and the calls of `set_partial`, and takes ranges or none. After some calls of `get`
+/// it gives one other value: the last of its bytes but two is 9, which in a document is the number
+/// of its format.
 #[derive(Drop)]
 pub(crate) struct TestStore<const TAKES_RANGES: bool> {
     pub inner: MemoryStore,
     pub calls_before: u64,
     pub fetches: u64,
+    pub bytes: u64,
     pub patches: u64,
+}
+
+/// Whether a key is that of a chunk of the array at `/a`.
+fn is_of_chunk(key: &StoreKey) -> bool {
+    key.as_str().starts_with("a/c/")
+}
+
+/// How many bytes these are.
+fn count_bytes(parts: &[Vec<u8>]) -> u64 {
+    let mut count: u64 = 0;
+    for part in parts {
+        count = count.wrapping_add(part.len() as u64);
+    }
+    count
 }
 
 impl<const TAKES_RANGES: bool> TestStore<TAKES_RANGES> {
@@ -23,12 +38,21 @@ impl<const TAKES_RANGES: bool> TestStore<TAKES_RANGES> {
     fn count_fetch(&mut self, key: &StoreKey) -> bool
         ensures { self.new.inner ≡ self.old.inner }
     {
-        if key.as_str().starts_with("a/c/") {
+        if is_of_chunk(key) {
             self.fetches = self.fetches.wrapping_add(1);
         }
         let is_changed = self.calls_before == 0;
         self.calls_before = self.calls_before.wrapping_sub(1);
         is_changed
+    }
+
+    /// Counts bytes that were given of the value of a key.
+    fn count_given(&mut self, key: &StoreKey, count: u64)
+        ensures { self.new.inner ≡ self.old.inner }
+    {
+        if is_of_chunk(key) {
+            self.bytes = self.bytes.wrapping_add(count);
+        }
     }
 }
 
@@ -60,6 +84,7 @@ impl<const TAKES_RANGES: bool> ReadableStorageTraits for TestStore<TAKES_RANGES>
         if is_changed {
             change(&mut value);
         }
+        self.count_given(key, value.len() as u64);
         Ok(Some(value))
     }
 
@@ -68,7 +93,11 @@ impl<const TAKES_RANGES: bool> ReadableStorageTraits for TestStore<TAKES_RANGES>
         key: &StoreKey,
         ranges: &[ByteRange],
     ) -> Result<Option<Vec<Vec<u8>>>, StorageError> {
-        self.inner.get_partial(key, ranges)
+        let Some(parts) = self.inner.get_partial(key, ranges)? else {
+            return Ok(None);
+        };
+        self.count_given(key, count_bytes(parts.as_slice()));
+        Ok(Some(parts))
     }
 
     fn size_key(&mut self, key: &StoreKey) -> Result<Option<u64>, StorageError> {

@@ -61,6 +61,7 @@ fn damaged<R: AllocGlobal + Threads + Sync>(rt: &R) -> Result<Option<TestStore<t
         inner: MemoryStore::new(alloc),
         calls_before: u64::MAX,
         fetches: 0,
+        bytes: 0,
         patches: 0,
     };
     let mut session: Session<TestStore<true>, ReverseCodec> = Session::new(alloc, store);

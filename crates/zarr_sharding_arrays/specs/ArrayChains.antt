@@ -1,11 +1,12 @@
 -- What the chain of an array stands for.
-use Rattle.std.specs.Prelude.{◌≡◌, List, [], ◌∷◌, Bool, true}
+use Rattle.std.specs.Prelude.{◌≡◌, List, [], ◌∷◌, Bool, IsTrue, refl, true}
 use Rattle.zarr_codecs_meaning.specs.Chains.{ByteCodec, Chain}
+use Rattle.zarr_codecs_meaning.specs.Fits.{is_plain}
 use Rattle.zarr_codecs_meaning.specs.Laws.{IsLawful, IsLawfulChain}
 use Rattle.zarr_codecs_options.specs.declared.subchunk_write_order.SubchunkWriteOrder.{SubchunkWriteOrder}
 use Rattle.zarr_codecs_chains.specs.Views.{lawful_of, meaning_of}
 use Rattle.zarr_sharding_codec.specs.Views.{inner_of, order_of}
-use Rattle.zarr_sharding_arrays.specs.Views.{HaveSameCodecs, shard_of, sharded_function, sharded_lawful, sharded_meaning}
+use Rattle.zarr_sharding_arrays.specs.Views.{HaveSameCodecs, shard_of, sharded_function, sharded_lawful, sharded_meaning, sharded_plain}
 use Rattle.zarr_sharding_arrays.specs.declared.array_chain.ArrayChain.{ArrayChain}
 use Rattle.zarr_sharding_arrays.specs.declared.array_chain.ArrayChain.TheVariants.{Plain, Sharded, Nested}
 
@@ -26,6 +27,12 @@ pub array_lawful : {B : Type 0} (meaning : B → ByteCodec) → ((codec : B) →
 array_lawful meaning each (Plain chain) = lawful_of meaning each chain
 array_lawful meaning each (Sharded chain) = sharded_lawful (meaning_of meaning) (lawful_of meaning each) meaning each chain
 array_lawful meaning each (Nested chain) = sharded_lawful (sharded_meaning (meaning_of meaning) meaning) (sharded_lawful (meaning_of meaning) (lawful_of meaning each) meaning each) meaning each chain
+
+-- where the chain makes no shard, what it makes of elements depends on these alone
+pub array_plain : {B : Type 0} (meaning : B → ByteCodec) (chain : ArrayChain B) → is_plain (array_meaning meaning chain) ≡ true → IsTrue (array_function chain)
+array_plain meaning (Plain chain) is = refl
+array_plain meaning (Sharded chain) is = sharded_plain (meaning_of meaning) (λ inner. true) meaning chain is
+array_plain meaning (Nested chain) is = sharded_plain (sharded_meaning (meaning_of meaning) meaning) (sharded_function (λ inner. true)) meaning chain is
 
 -- the orders in which the subchunks of its shards are written, from the outermost inwards
 abbrev pub array_orders : {B : Type 0} → ArrayChain B → List SubchunkWriteOrder

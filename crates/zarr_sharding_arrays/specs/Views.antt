@@ -1,11 +1,14 @@
 -- What a chain of codecs around a shard stands for.
-use Rattle.std.specs.Prelude.{◌≡◌, List, Bool, true}
+use Rattle.std.specs.Prelude.{◌≡◌, List, Bool, IsTrue, map, true}
+use Rattle.std.proofs.Common.{◌∙◌, sym}
+use Rattle.std.proofs.lemmas.Bool.{false≢true}
 use Rattle.zarr_grids_metadata.specs.ExtensionPoints.{ExtensionPoint}
 use Rattle.zarr_codecs_meaning.specs.Chains.{ByteCodec, Chain}
+use Rattle.zarr_codecs_meaning.specs.Fits.{is_plain}
 use Rattle.zarr_codecs_meaning.specs.Laws.{IsLawful, IsLawfulChain}
 use Rattle.zarr_codecs_array_to_array.specs.declared.codec.ArrayToArrayCodec.{ArrayToArrayCodec}
 use Rattle.zarr_codecs_around.specs.Copies.{AreWrittenAlike, WritesAlike}
-use Rattle.zarr_codecs_around.specs.Views.{array_points, codecs_of, lawful_after, with_array_codecs}
+use Rattle.zarr_codecs_around.specs.Views.{array_points, codecs_of, lawful_after, plain_before, plain_with, with_array_codecs}
 use Rattle.zarr_codecs_around.specs.ThenBytes as then
 use Rattle.zarr_codecs_chains.specs.Views.{lawful_of, meaning_of, points_of}
 use Rattle.zarr_codecs_chains.specs.declared.chain.CodecChain.{CodecChain}
@@ -43,6 +46,12 @@ pub sharded_lawful : {B I : Type 0} (inner : I → Chain) → ((codec : I) → I
 sharded_lawful inner first meaning each chain =
     lawful_after (codecs_of (arrays_of chain)) (others_meaning inner meaning chain)
     (then.then_lawful (shard_chain inner (meaning_of meaning)) (λ codec. (first (inner_of codec), lawful_of meaning each (index_of codec))) meaning each chain.others)
+
+-- no chain around a shard makes none
+pub sharded_plain : {B I : Type 0} (inner : I → Chain) (is_function : I → Bool) (meaning : B → ByteCodec) (chain : ShardedChain B I) → is_plain (sharded_meaning inner meaning chain) ≡ true → IsTrue (sharded_function is_function chain)
+sharded_plain inner is_function meaning chain is =
+    let shard = shard_chain inner (meaning_of meaning) (shard_of chain) in
+    absurd (false≢true (sym (plain_before (codecs_of (arrays_of chain)) (others_meaning inner meaning chain) ∙ plain_with shard (map meaning (bytes_of chain))) ∙ is))
 
 -- a chain around a shard is a copy: its array codecs are written alike, the codecs of its subchunks are a copy, those of its index and the caller's are written alike, and its subchunks are written in the same order
 pub record IsShardedCopy {B I : Type 0} (inner : I → I → Type 0) (bytes : B → ByteCodec) (chain copy : ShardedChain B I) : Type 0 where

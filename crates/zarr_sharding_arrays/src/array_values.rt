@@ -11,7 +11,7 @@ use zarr_codecs_types::DataType;
 use zarr_sharding_inner::{ShardingCodecOptions, TakesShardingOptions};
 
 impl<B: BytesToBytesCodecTraits> ArrayToBytesCodecTraits for ArrayChain<B> {
-    ghost use Rattle.zarr_sharding_arrays.specs.ArrayChains.{array_function, array_lawful, array_meaning};
+    ghost use Rattle.zarr_sharding_arrays.specs.ArrayChains.{array_function, array_lawful, array_meaning, array_plain};
     ghost use Rattle.zarr_sharding_arrays.specs.Metadata.{IsArrayCopy};
     ghost use Rattle.zarr_sharding_arrays.specs.Pieces.{DecodesOutermost, EncodesOutermost, SplitsOutermost, SplitsOutermostArray, SplitsOutermostPart, around_outermost};
 
@@ -308,6 +308,8 @@ impl<B: BytesToBytesCodecTraits> ArrayToBytesCodecTraits for ArrayChain<B> {
     }
 
     ghost lawful = { array_lawful B.meaning B.lawful };
+
+    ghost plain = { array_plain B.meaning };
 }
 
 impl<B: BytesToBytesCodecTraits> TakesShardingOptions for ArrayChain<B> {

@@ -83,7 +83,7 @@ impl<B: BytesToBytesCodecTraits, I: InnerCodec> ShardedChain<B, I> {
 
 impl<B: BytesToBytesCodecTraits, I: InnerCodec> ArrayToBytesCodecTraits for ShardedChain<B, I> {
     ghost use Rattle.zarr_sharding_arrays.specs.Pieces.{DecodesSharded, EncodesSharded, SplitsSharded, SplitsShardedArray, SplitsShardedPart, around_shard};
-    ghost use Rattle.zarr_sharding_arrays.specs.Views.{IsShardedCopy, sharded_function, sharded_lawful, sharded_meaning};
+    ghost use Rattle.zarr_sharding_arrays.specs.Views.{IsShardedCopy, sharded_function, sharded_lawful, sharded_meaning, sharded_plain};
 
     ghost meaning = { sharded_meaning I.meaning B.meaning };
 
@@ -368,6 +368,8 @@ impl<B: BytesToBytesCodecTraits, I: InnerCodec> ArrayToBytesCodecTraits for Shar
     }
 
     ghost lawful = { sharded_lawful I.meaning I.lawful B.meaning B.lawful };
+
+    ghost plain = { sharded_plain I.meaning I.is_function B.meaning };
 }
 
 /// Whether one of the codecs is `reshape`.

@@ -5,7 +5,7 @@ use Rattle.zarr_codecs_meaning.specs.Chains.{Chain, Location}
 use Rattle.zarr_codecs_meaning.specs.Encoding.{Pair}
 use Rattle.zarr_codecs_meaning.specs.Fits.{is_lossless}
 use Rattle.zarr_codecs_meaning.specs.Places.{index_shape, parts_of}
-use Rattle.zarr_codecs_meaning.specs.Types.{uint64}
+use Rattle.zarr_codecs_meaning.specs.Types.{Cell, uint64}
 use Rattle.zarr_sharding_changes.specs.Changes.{Change, appended, pairs_after}
 use Rattle.zarr_sharding_codec.specs.PartWriting.{AreChanged, Put}
 use Rattle.zarr_sharding_decoder.specs.Shards.{ShardOf}
@@ -13,7 +13,7 @@ use Rattle.zarr_sharding_state.specs.Held.{IsOpened}
 use Rattle.zarr_sharding_state.specs.Written.{ChangesRefused, IsChanged}
 use Rattle.zarr_sharding_state.proofs.Counts.{changed_count}
 use Rattle.zarr_sharding_state.proofs.Reopened.{reopened}
-use Rattle.zarr_sharding_cells.specs.Puts.{IsWritten, NotWritten}
+use Rattle.zarr_sharding_cells.specs.Puts.{IsWritten, NotWritten, Putting, new_cells}
 use Rattle.zarr_sharding_cells.specs.Tables.{Held, IsTold, held_as, stored_of}
 use Rattle.zarr_sharding_cells.proofs.Known.{same_told}
 use Rattle.zarr_sharding_cells.proofs.Refused.{unwritten}
@@ -54,15 +54,15 @@ after_told (Ok value) s one changes old new h count lossless told =
     (subst (λ (ps : List Pair). IsChanged s.index one s.location shape changes old.end ps old.contents new.contents new.end) h.pairs h.written))
 after_told (Err e) s one changes old new h count lossless told = same_told s old new h.same.0 h.same.1 h.err told
 
-pub after_written : {A : Type 0} (result : Result A CodecError) (s : ShardOf) (exact one : Bool) (new_cells : Put) (changes : List Change) (old new : Held) → IsAfter result s one changes old new → AreChanged (stored_of s exact old) new_cells changes → OnOk result (IsWritten s exact one new_cells old new)
-after_written (Ok value) s exact one new_cells changes old new h changed = record {
+pub after_written : {A : Type 0} (result : Result A CodecError) (put : Putting) (cells : List Cell) (changes : List Change) (old new : Held) → IsAfter result put.shard put.one changes old new → AreChanged (stored_of put.shard put.exact old) (new_cells put cells) changes → OnOk result (IsWritten put cells old new)
+after_written (Ok value) put cells changes old new h changed = record {
   changes = changes;
   changed = changed;
   room = h.room;
   pairs = h.pairs;
   written = h.written;
 }
-after_written (Err e) s exact one new_cells changes old new h changed = tt
+after_written (Err e) put cells changes old new h changed = tt
 
 pub after_refused : {A : Type 0} (result : Result A CodecError) (s : ShardOf) (exact : Bool) (new_cells : Put) (changes : List Change) (old : Held) → AreChanged (stored_of s exact old) new_cells changes
     → ChangesRefused s.index s.location (index_shape s.shape s.subchunk) changes old.end (pairs_after old.end changes old.pairs) result → IfErr result (NotWritten s exact new_cells old)

@@ -24,9 +24,9 @@ unchanged s exact new_cells held e why = absurd why
 -- their slices are not written
 pub unwritten : (A : Type 0) (s : ShardOf) (exact : Bool) (new_cells : Put) (held : Held) (changes : List Change) (e : CodecError) → AreChanged (stored_of s exact held) new_cells changes
     → ChangesRefused {A = A} s.index s.location (index_shape s.shape s.subchunk) changes held.end (pairs_after held.end changes held.pairs) (Err e) → NotWritten s exact new_cells held e
-unwritten A s exact new_cells held changes error.Codec changed why = inr (record { changes = changes; changed = changed; is = why })
+unwritten A s exact new_cells held changes error.Codec changed why = inr (record { changes = changes; changed = changed; some = why.0; is = why.1 })
 unwritten A s exact new_cells held changes error.Size changed (inl long) = inr (inr (record { changes = changes; changed = changed; is = long }))
-unwritten A s exact new_cells held changes error.Size changed (inr why) = inr (inl (record { changes = changes; changed = changed; is = why }))
+unwritten A s exact new_cells held changes error.Size changed (inr why) = inr (inl (record { changes = changes; changed = changed; some = why.0; is = why.1 }))
 unwritten A s exact new_cells held changes error.Source changed why = tt
 unwritten A s exact new_cells held changes error.Memory changed why = tt
 unwritten A s exact new_cells held changes e changed why = absurd why

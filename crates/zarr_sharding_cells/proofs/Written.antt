@@ -28,7 +28,7 @@ use Rattle.zarr_sharding_codec.proofs.PartStands.{IsAppended}
 use Rattle.zarr_sharding_codec.proofs.PartWritten.{part_encoded}
 use Rattle.zarr_sharding_decoder.specs.Pairs.{index_length}
 use Rattle.zarr_sharding_decoder.specs.Shards.{ShardOf, chain_of}
-use Rattle.zarr_sharding_cells.specs.Puts.{HasSlice, IsGiven, IsKept, IsPut, IsPutInto, IsWritten}
+use Rattle.zarr_sharding_cells.specs.Puts.{HasSlice, IsGiven, IsKept, IsPut, IsPutInto, IsWritten, Putting}
 use Rattle.zarr_sharding_cells.specs.Tables.{Held, IsTold, put_of, stored_of}
 use Rattle.zarr_sharding_cells.proofs.KeptSlices.{are_at, base, kept_data, new_has, slice_after, slice_stays}
 
@@ -49,8 +49,23 @@ changed_below stored new_cells [] k are has = absurd has
 changed_below stored new_cells (change ∷ changes) k are (inl same) = subst (λ j. j < length stored.pairs) same are.0.below
 changed_below stored new_cells (change ∷ changes) k are (inr has) = changed_below stored new_cells changes k are.1 has
 
-module _ (s : ShardOf) (exact one : Bool) (asked : Asked) (payload : Payload) (cells : List Cell) (old new : Held) (h : IsReady s asked payload cells old) (w : IsWritten s exact one (put_of s asked cells) old new) where
-  abbrev tested : IsTestedPart (chain_of s) s.elements s.shape asked payload (index_length s) (numbers_asked s.shape asked)
+module _ (put : Putting) (cells : List Cell) (old new : Held) (h : IsReady put.shard put.asked put.payload cells old) (w : IsWritten put cells old new) where
+  abbrev s : ShardOf
+  s = put.shard
+
+  abbrev exact : Bool
+  exact = put.exact
+
+  abbrev one : Bool
+  one = put.one
+
+  abbrev asked : Asked
+  asked = put.asked
+
+  abbrev payload : Payload
+  payload = put.payload
+
+  abbrev tested : IsTestedPart (coded (chain_of s) s.elements s.shape) asked payload (index_length s) (numbers_asked s.shape asked)
   tested = record {
     cells = cells;
     valid = h.given.valid;
@@ -104,7 +119,7 @@ module _ (s : ShardOf) (exact one : Bool) (asked : Asked) (payload : Payload) (c
       (ap is_absent same ∙ is_present first «data» (get_or after k absent_pair) slice has, ap (slice_at (unwrap_or new.contents [])) same ∙ found)
 
   -- a subchunk that is met
-  is_met : (k : ℕ) → IsMet (put_of s asked cells) k → IsPut s exact (put_of s asked cells) old new k
+  is_met : (k : ℕ) → IsMet (put_of s asked cells) k → IsPut put cells old new k
   is_met k m =
       let has = subst (λ j. HasChange j w.changes) m.is (w.changed.all m.at_ m.below) in
       let low = changed_below (stored_of s exact old) (put_of s asked cells) w.changes k w.changed.are has in
@@ -140,7 +155,7 @@ module _ (s : ShardOf) (exact one : Bool) (asked : Asked) (payload : Payload) (c
   is_encoded : IsEncodedInto (coded (chain_of s) s.elements s.shape) exact (update_of asked payload old.contents) cells new.contents
   is_encoded = part_encoded s.subchunk s.inner s.index s.location exact one exact s.elements s.shape asked payload (index_length s) (numbers_asked s.shape asked) old.contents new.contents tested is_appended (λ e. e)
 
-  pub put_into : IsPutInto s exact one asked payload cells old new
+  pub put_into : IsPutInto put cells old new
   put_into = record {
     given = h.given;
     is = w;

@@ -11,7 +11,8 @@ use Rattle.zarr_codecs_meaning.specs.Payloads.{Payload}
 use Rattle.zarr_codecs_meaning.specs.Places.{index_shape}
 use Rattle.zarr_codecs_meaning.specs.Refusals.{CodecRefuses, PassesIndex}
 use Rattle.zarr_codecs_meaning.specs.Types.{Cell, Elements, uint64, zero_filled}
-use Rattle.zarr_codecs_traits.specs.Indexers.{Asked, are_inside, numbers_asked, put}
+use Rattle.zarr_codecs_traits.specs.Indexers as indexers
+use Rattle.zarr_codecs_traits.specs.Indexers.{Asked, are_inside, numbers_asked}
 use Rattle.zarr_codecs_traits.specs.Arrays.{coded, update_of}
 use Rattle.zarr_codecs_traits.specs.PartWriting.{IsEncodedInto}
 use Rattle.zarr_sharding_changes.specs.Changes.{Change, appended, pairs_after}
@@ -19,7 +20,7 @@ use Rattle.zarr_sharding_codec.specs.PartWriting.{AreChanged, IsLostAt, IsMet, I
 use Rattle.zarr_sharding_codec.specs.Slices.{IsPieceStored}
 use Rattle.zarr_sharding_decoder.specs.Pairs.{index_length}
 use Rattle.zarr_sharding_decoder.specs.Shards.{ShardOf, chain_of}
-use Rattle.zarr_sharding_state.specs.Held.{shard_length}
+use Rattle.zarr_sharding_state.specs.Held.{are_absent, shard_length}
 use Rattle.zarr_sharding_state.specs.Written.{IsChanged}
 use Rattle.zarr_sharding_cells.specs.Tables.{Held, IsTold, put_of, stored_of, table_of}
 
@@ -44,14 +45,6 @@ NotGiven elements shape asked payload e = (are_inside shape asked ≡ true) × I
 
 -- ---- what is written
 
--- the new slices of all subchunks that the places lie in are appended to the data part, one of each, and the index says where they stand; where no subchunk is present then, the value is taken away
-pub record IsWritten (s : ShardOf) (exact one : Bool) (new_cells : Put) (old new : Held) : Type 0 where
-  pub changes : List Change
-  pub changed : AreChanged (stored_of s exact old) new_cells changes
-  pub room : old.end + length (appended changes) < 2 ^ 63
-  pub pairs : new.pairs ≡ pairs_after old.end changes old.pairs
-  pub written : IsChanged s.index one s.location (index_shape s.shape s.subchunk) changes old.end new.pairs old.contents new.contents new.end
-
 -- elements that are to be put at the places of a shard's array that are asked for; it is told whether what the codecs of its subchunks, and those of its index, make depends on what they are given alone
 pub record Putting : Type 0 where
   pub shard : ShardOf
@@ -60,10 +53,22 @@ pub record Putting : Type 0 where
   pub asked : Asked
   pub payload : Payload
 
+-- the new cells of a put, for the places that are asked for
+abbrev pub new_cells : Putting → List Cell → Put
+new_cells put cells = put_of put.shard put.asked cells
+
+-- the new slices of all subchunks that the places lie in are appended to the data part, one of each, and the index says where they stand; where no subchunk is present then, the value is taken away
+pub record IsWritten (put : Putting) (cells : List Cell) (old new : Held) : Type 0 where
+  pub changes : List Change
+  pub changed : AreChanged (stored_of put.shard put.exact old) (new_cells put cells) changes
+  pub room : old.end + length (appended changes) < 2 ^ 63
+  pub pairs : new.pairs ≡ pairs_after old.end changes old.pairs
+  pub written : IsChanged put.shard.index put.one put.shard.location (index_shape put.shard.shape put.shard.subchunk) changes old.end new.pairs old.contents new.contents new.end
+
 -- what a call writes where the elements are valid ones, one for each place
 abbrev pub WritesValid : {A : Type 0} → Putting → Held → Held → Result A CodecError → Type 0
 WritesValid put old new result =
-    (cells : List Cell) → IsValid put.shard.elements.type put.payload (length (numbers_asked put.shard.shape put.asked)) cells → OnOk result (IsWritten put.shard put.exact put.one (put_of put.shard put.asked cells) old new)
+    (cells : List Cell) → IsValid put.shard.elements.type put.payload (length (numbers_asked put.shard.shape put.asked)) cells → OnOk result (IsWritten put cells old new)
 
 -- a subchunk has a slice in what is stored, or it is absent
 abbrev pub HasSlice : Option (List ℕ) → Pair → Option (List ℕ) → Type 0
@@ -76,31 +81,33 @@ pub record IsKept (old new : Held) (k : ℕ) : Type 0 where
   pub slice : is_absent (get_or old.pairs k absent_pair) ≡ false → slice_at (unwrap_or new.contents []) (get_or new.pairs k absent_pair) ≡ slice_at (unwrap_or old.contents []) (get_or old.pairs k absent_pair)
 
 -- a subchunk has the cells that it had, with the new ones put over them, and is encoded anew and whole; it is absent where all of them are the fill value
-pub record IsPut (s : ShardOf) (exact : Bool) (new_cells : Put) (old new : Held) (k : ℕ) : Type 0 where
+pub record IsPut (put : Putting) (cells : List Cell) (old new : Held) (k : ℕ) : Type 0 where
   pub before : List Cell
-  pub held : cells_held (stored_of s exact old) (shape_in new_cells k) k ≡ Some before
+  pub held : cells_held (stored_of put.shard put.exact old) (shape_in (new_cells put cells) k) k ≡ Some before
   pub slice : Option (List ℕ)
-  pub stored : IsPieceStored s.inner exact s.elements (shape_in new_cells k, cells_put new_cells k before) slice
+  pub stored : IsPieceStored put.shard.inner put.exact put.shard.elements (shape_in (new_cells put cells) k, cells_put (new_cells put cells) k before) slice
   pub has : HasSlice new.contents (get_or new.pairs k absent_pair) slice
 
 -- new cells were put at the places that are asked for: of the array's table, and of the shard subchunk by subchunk
-pub record IsPutInto (s : ShardOf) (exact one : Bool) (asked : Asked) (payload : Payload) (cells : List Cell) (old new : Held) : Type 0 where
-  pub given : IsGiven s.elements s.shape asked payload cells
-  pub is : IsWritten s exact one (put_of s asked cells) old new
+pub record IsPutInto (put : Putting) (cells : List Cell) (old new : Held) : Type 0 where
+  pub given : IsGiven put.shard.elements put.shard.shape put.asked put.payload cells
+  pub is : IsWritten put cells old new
   -- the table has the new cells at these places, and its other ones elsewhere
-  pub table : is_lossless (chain_of s) s.elements.type ≡ true → table_of s new ≡ put (numbers_asked s.shape asked) (map (λ cell. Some (cell ∷ [])) cells) (table_of s old)
+  pub table : is_lossless (chain_of put.shard) put.shard.elements.type ≡ true
+      → table_of put.shard new ≡ indexers.put (numbers_asked put.shard.shape put.asked) (map (λ cell. Some (cell ∷ [])) cells) (table_of put.shard old)
   -- what stood for a table stands for the new one
-  pub encoded : IsEncodedInto (coded (chain_of s) s.elements s.shape) exact (update_of asked payload old.contents) cells new.contents
-  pub met : (k : ℕ) → IsMet (put_of s asked cells) k → IsPut s exact (put_of s asked cells) old new k
-  pub others : (k : ℕ) → k < length old.pairs → ¬ IsMet (put_of s asked cells) k → IsKept old new k
-  pub told : is_lossless s.index uint64 ≡ true → IsTold s new
+  pub encoded : IsEncodedInto (coded (chain_of put.shard) put.shard.elements put.shard.shape) put.exact (update_of put.asked put.payload old.contents) cells new.contents
+  pub met : (k : ℕ) → IsMet (new_cells put cells) k → IsPut put cells old new k
+  pub others : (k : ℕ) → k < length old.pairs → ¬ IsMet (new_cells put cells) k → IsKept old new k
+  pub told : is_lossless put.shard.index uint64 ≡ true → IsTold put.shard new
 
 -- ---- why nothing is written
 
--- the index of the pairs after the changes is refused
+-- the index of the pairs after the changes is refused, one of which is present; where none is, no index is made
 pub record IsIndexRefused (refuses : Chain → Elements → List ℕ → List Cell → Type 0) (s : ShardOf) (exact : Bool) (new_cells : Put) (held : Held) : Type 0 where
   pub changes : List Change
   pub changed : AreChanged (stored_of s exact held) new_cells changes
+  pub some : are_absent (pairs_after held.end changes held.pairs) ≡ false
   pub is : refuses s.index (zero_filled uint64) (index_shape s.shape s.subchunk) (pair_cells (pairs_after held.end changes held.pairs))
 
 -- the shard would have 2^63 bytes or more
@@ -123,11 +130,13 @@ NotWritten s exact new_cells held e = ⊥
 -- why a call doesn't write elements that are valid ones, one for each place
 abbrev pub ValidNotWritten : {A : Type 0} → Putting → Held → Result A CodecError → Type 0
 ValidNotWritten put held result =
-    (cells : List Cell) → IsValid put.shard.elements.type put.payload (length (numbers_asked put.shard.shape put.asked)) cells → IfErr result (NotWritten put.shard put.exact (put_of put.shard put.asked cells) held)
+    (cells : List Cell) → IsValid put.shard.elements.type put.payload (length (numbers_asked put.shard.shape put.asked)) cells → IfErr result (NotWritten put.shard put.exact (new_cells put cells) held)
 
 -- why new cells are not put at the places that are asked for
-abbrev pub NotPutInto : ShardOf → Bool → Asked → Payload → Held → CodecError → Type 0
-NotPutInto s exact asked payload held e = NotGiven s.elements s.shape asked payload e ⊎ ((cells : List Cell) × IsGiven s.elements s.shape asked payload cells × NotWritten s exact (put_of s asked cells) held e)
+abbrev pub NotPutInto : Putting → Held → CodecError → Type 0
+NotPutInto put held e =
+    NotGiven put.shard.elements put.shard.shape put.asked put.payload e
+    ⊎ ((cells : List Cell) × IsGiven put.shard.elements put.shard.shape put.asked put.payload cells × NotWritten put.shard put.exact (new_cells put cells) held e)
 
 -- whether a write is refused before the source is asked to write: for what is given, or for damage
 abbrev pub IsRefusedUnwritten : CodecError → Type 0

@@ -16,12 +16,13 @@ impl<
     X: ArrayToBytesCodecTraits + Sync,
     E: BytesPartialEncoderTraits,
 > ShardState<'a, I, X, E> {
-    ghost use Rattle.std.specs.Prelude.{◌≡◌, ◌≤◌, ◌+◌, Some, IsTrue};
+    ghost use Rattle.std.specs.Prelude.{◌≡◌, ◌≤◌, ◌+◌, IsTrue};
     ghost use Rattle.zarr_codecs_traits.specs.Indexers.{asked_of};
     ghost use Rattle.zarr_codecs_traits.specs.Sources.{CountsRead};
+    ghost use Rattle.zarr_sharding_cells.specs.Calls.{slices_met};
     ghost use Rattle.zarr_sharding_cells.specs.Tables.{IsTold};
     ghost use Rattle.zarr_sharding_cells.specs.Views.{codec_of, held_of, known_of, shard_of, source_of};
-    ghost use Rattle.zarr_sharding_decoder.specs.Parts.{ReadsPart, slices_met};
+    ghost use Rattle.zarr_sharding_decoder.specs.Parts.{ReadsPart};
 
     /// The elements at the places that are asked for, in their order; each is the fill value where
     /// its subchunk is absent. The index that is kept says where each subchunk stands: each slice
@@ -44,8 +45,7 @@ impl<
             (E.refused_calls (source_of self.new)) }
         ensures given { IsTrue (E.is_honest (source_of self.old)) →
             E.given_bytes (source_of self.new) ≤ E.given_bytes (source_of self.old) + slices_met
-            (shard_of I.meaning X.meaning self.old) (Some (known_of self.old).0)
-            (asked_of indexer.entry) }
+            (shard_of I.meaning X.meaning self.old) (known_of self.old) (asked_of indexer.entry) }
         ensures follows { E.follows (source_of self.old) (source_of self.new) }
         ensures held { held_of E.contents self.new ≡ held_of E.contents self.old }
         ensures codec { codec_of self.new ≡ codec_of self.old }

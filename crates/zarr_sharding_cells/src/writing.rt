@@ -17,30 +17,19 @@ impl<
     X: ArrayToBytesCodecTraits + Sync,
     E: BytesPartialEncoderTraits,
 > ShardState<'a, I, X, E> {
-    ghost use Rattle.std.specs.Prelude.{◌≤◌, ◌+◌, List, Some, IfErr, IsTrue, OnOk};
-    ghost use Rattle.zarr_codecs_arrays.specs.Views.{payload_of};
+    ghost use Rattle.std.specs.Prelude.{List, IfErr, IsTrue, OnOk};
     ghost use Rattle.zarr_codecs_meaning.specs.Types.{Cell};
     ghost use Rattle.zarr_codecs_traits.specs.Indexers.{asked_of};
-    ghost use Rattle.zarr_sharding_cells.specs.Calls.{CalledToWrite};
-    ghost use Rattle.zarr_sharding_cells.specs.Puts.{IsPutInto, IsRefusedUnwritten, NotPutInto};
+    ghost use Rattle.zarr_sharding_cells.specs.Calls.{CalledToWrite, GivesToWrite, slices_met};
+    ghost use Rattle.zarr_sharding_cells.specs.Puts.{IsPutInto, NotPutInto};
     ghost use Rattle.zarr_sharding_cells.specs.Tables.{IsTold};
-    ghost use Rattle.zarr_sharding_cells.specs.Views.{codec_of, held_of, known_of, shard_of, source_of};
-    ghost use Rattle.zarr_sharding_codec.specs.Views.{index_of, inner_of};
-    ghost use Rattle.zarr_sharding_decoder.specs.Parts.{slices_met};
+    ghost use Rattle.zarr_sharding_cells.specs.Views.{held_of, known_of, putting_of, shard_of, source_of};
 
-    /// Puts elements in the place of those at the places that are asked for, in their order; of a
-    /// place that is asked for twice the last element stays. Each subchunk that is met is decoded,
-    /// changed, and encoded anew and whole; the new slices are appended to the data part, and go
-    /// out together with the index in one writing call. A subchunk that became all fill becomes
-    /// absent, and where none is present then, the value is taken away. All other subchunks keep
-    /// their slices where they stand. An `Err` leaves what the source holds and what is known of it
-    /// as they were: `IncompatibleIndexer` where a place isn't one of the array's;
-    /// `InvalidNumberOfElements`, `Expected..` or `CellOutOfRange` where these are not elements,
-    /// one for each place; `Damage` where the slice of a subchunk that is met isn't decoded;
-    /// `Codec` where a caller's codec refuses a new slice or the new index; `Size` where a
-    /// subchunk, an offset or a length is too large, or the shard would have 2^63 bytes or more;
-    /// `Source` where the source refuses. Where elements are refused, or for damage, an honest
-    /// source gave at most the slices that are met.
+    /// Puts elements at the places that are asked for, as
+    /// `ArrayToBytesCodecTraits::partial_encode` does, with its errors; `Size` also where the shard
+    /// would have 2^63 bytes or more: slices are only appended. An `Err` leaves the shard as it
+    /// was. An honest source gives at most the slices that are met, and, where it writes no ranges,
+    /// the value once.
     pub fn partial_encode<R: Threads + Sync>(
         &mut self,
         rt: &R,
@@ -51,20 +40,14 @@ impl<
     ) -> Result<(), CodecError>
         ensures ok { IsTrue (E.is_honest (source_of self.old)) → IsTold
             (shard_of I.meaning X.meaning self.old) (held_of E.contents self.old) → OnOk result
-            ((cells : List Cell) × IsPutInto (shard_of I.meaning X.meaning self.old)
-            (I.is_function (inner_of (codec_of self.old)))
-            (X.is_function (index_of (codec_of self.old))) (asked_of indexer.entry)
-            (payload_of bytes) cells (held_of E.contents self.old) (held_of E.contents self.new)) }
+            ((cells : List Cell) × IsPutInto (putting_of self.old indexer.entry bytes) cells
+            (held_of E.contents self.old) (held_of E.contents self.new)) }
         ensures cause { IsTrue (E.is_honest (source_of self.old)) → IsTold
             (shard_of I.meaning X.meaning self.old) (held_of E.contents self.old) → IfErr result
-            (NotPutInto (shard_of I.meaning X.meaning self.old)
-            (I.is_function (inner_of (codec_of self.old))) (asked_of indexer.entry)
-            (payload_of bytes) (held_of E.contents self.old)) }
-        ensures given { IsTrue (E.is_honest (source_of self.old)) → IfErr result (λ error.
-            IsRefusedUnwritten error → E.given_bytes (source_of self.new)
-            ≤ E.given_bytes (source_of self.old) + slices_met
-            (shard_of I.meaning X.meaning self.old) (Some (known_of self.old).0)
-            (asked_of indexer.entry)) }
+            (NotPutInto (putting_of self.old indexer.entry bytes) (held_of E.contents self.old)) }
+        ensures given { GivesToWrite self.old self.new (slices_met
+            (shard_of I.meaning X.meaning self.old) (known_of self.old)
+            (asked_of indexer.entry)) result }
         ensures call { CalledToWrite self.old self.new result }
     {
         let array = WholeArray {
@@ -84,14 +67,13 @@ impl<
     X: ArrayToBytesCodecTraits,
     E: BytesPartialEncoderTraits,
 > ShardState<'a, I, X, E> {
-    ghost use Rattle.std.specs.Prelude.{◌≡◌, ◌≤◌, ◌+◌, Some, true, IfErr, IsTrue, OnOk};
+    ghost use Rattle.std.specs.Prelude.{◌≡◌, true, IsTrue, OnOk};
     ghost use Rattle.zarr_codecs_traits.specs.Indexers.{are_inside, asked_of};
     ghost use Rattle.zarr_codecs_traits.specs.Writes.{WriteRefused};
-    ghost use Rattle.zarr_sharding_cells.specs.Calls.{CalledToWrite};
-    ghost use Rattle.zarr_sharding_cells.specs.Puts.{IsRefusedUnwritten, ValidNotWritten, WritesValid};
+    ghost use Rattle.zarr_sharding_cells.specs.Calls.{CalledToWrite, GivesToWrite, slices_met};
+    ghost use Rattle.zarr_sharding_cells.specs.Puts.{ValidNotWritten, WritesValid};
     ghost use Rattle.zarr_sharding_cells.specs.Tables.{IsErased, IsTold};
     ghost use Rattle.zarr_sharding_cells.specs.Views.{held_of, known_of, putting_of, shard_of, source_of};
-    ghost use Rattle.zarr_sharding_decoder.specs.Parts.{slices_met};
 
     /// Puts elements at the places that are asked for, which are the array's. Errors as those of
     /// `partial_encode`.
@@ -111,11 +93,9 @@ impl<
             (shard_of I.meaning X.meaning self.old) (held_of E.contents self.old)
             → ValidNotWritten (putting_of self.old indexer.entry bytes)
             (held_of E.contents self.old) result }
-        ensures given { IsTrue (E.is_honest (source_of self.old)) → IfErr result (λ error.
-            IsRefusedUnwritten error → E.given_bytes (source_of self.new)
-            ≤ E.given_bytes (source_of self.old) + slices_met
-            (shard_of I.meaning X.meaning self.old) (Some (known_of self.old).0)
-            (asked_of indexer.entry)) }
+        ensures given { GivesToWrite self.old self.new (slices_met
+            (shard_of I.meaning X.meaning self.old) (known_of self.old)
+            (asked_of indexer.entry)) result }
         ensures call { CalledToWrite self.old self.new result }
     {
         let layout = IndexLayout {
@@ -149,11 +129,12 @@ impl<
 
     /// Takes the shard away, so that all elements are the fill value, by one writing call. An `Err`
     /// leaves what the source holds and what is known of it as they were: `Source` where the source
-    /// refuses.
+    /// refuses. No byte is given to do so.
     pub fn erase(&mut self, alloc: Global) -> Result<(), CodecError>
         ensures ok { IsTrue (E.is_honest (source_of self.old)) → OnOk result (IsErased
             (shard_of I.meaning X.meaning self.old) (held_of E.contents self.new)) }
         ensures cause { WriteRefused result }
+        ensures given { E.given_bytes (source_of self.new) ≡ E.given_bytes (source_of self.old) }
         ensures call { CalledToWrite self.old self.new result }
     {
         let layout = IndexLayout {

@@ -34,7 +34,6 @@ pub mod PartPlaced
 pub mod PartAfter
 pub mod AppendedShard
 pub mod PartWritten
-pub mod ChangedSlices
 pub mod Appended
 pub mod PartLength
 pub mod PartAppended

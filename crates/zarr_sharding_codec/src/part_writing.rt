@@ -22,7 +22,7 @@ pub struct TestedPart<'a> {
 impl<I: ArrayToBytesCodecTraits, X: ArrayToBytesCodecTraits> ShardingCodec<I, X> {
     ghost use Rattle.std.specs.Prelude.{◌≡◌, ◌+◌, ◌*◌, ◌<◌, ◌≤◌, ◌^◌, ℕ, List, Option, Some, true, length, nat_lt, unwrap_or, IsTrue, IfOk};
     ghost use Rattle.std.specs.List.{list_all};
-    ghost use Rattle.zarr_codecs_arrays.specs.Views.{elements_of, payload_of};
+    ghost use Rattle.zarr_codecs_arrays.specs.Views.{payload_of};
     ghost use Rattle.zarr_codecs_meaning.specs.Encoding.{index_size};
     ghost use Rattle.zarr_codecs_traits.specs.Indexers.{asked_of, numbers_asked};
     ghost use Rattle.zarr_codecs_traits.specs.Arrays.{coded_part, update_part};
@@ -31,7 +31,8 @@ impl<I: ArrayToBytesCodecTraits, X: ArrayToBytesCodecTraits> ShardingCodec<I, X>
     ghost use Rattle.zarr_codecs_traits.specs.Sources.{refused_after};
     ghost use Rattle.zarr_grids_boxes.specs.Boxes.{product};
     ghost use Rattle.zarr_sharding_changes.specs.Changes.{appended, pairs_after};
-    ghost use Rattle.zarr_sharding_codec.specs.Appending.{AppendsChanges, AppendsPart, ChangesUnwritten, IsTestedPart, TriedToWrite};
+    ghost use Rattle.zarr_sharding_codec.specs.Appending.{AppendsChanges, AppendsPart, ChangesUnwritten, IsTestedPart, TriedToWrite, most_tried, shard_write};
+    ghost use Rattle.zarr_sharding_codec.specs.Assembled.{index_coding};
     ghost use Rattle.zarr_sharding_codec.specs.Views.{index_of, makes_a_function, place_of_index, shard_chain, subchunk_of};
     ghost use Rattle.zarr_sharding_index.specs.Stored.{index_fits};
     ghost use Rattle.zarr_sharding_index.specs.Views.{location_of};
@@ -51,8 +52,8 @@ impl<I: ArrayToBytesCodecTraits, X: ArrayToBytesCodecTraits> ShardingCodec<I, X>
         part: ArrayPart<'_>,
     ) -> Result<u64, CodecError>
         ensures ok { IfOk result (λ size. IsTestedPart
-            (shard_chain I.meaning X.meaning self.now) (elements_of part.entry.elements.now)
-            part.entry.shape.now (asked_of part.entry.indexer) (payload_of bytes.now) size
+            (coded_part (shard_chain I.meaning X.meaning self.now) part.entry)
+            (asked_of part.entry.indexer) (payload_of bytes.now) size
             (numbers_asked part.entry.shape.now (asked_of part.entry.indexer))) }
         ensures cause { (stored : Option (List ℕ)) → NotEncodedInto
             (coded_part (shard_chain I.meaning X.meaning self.now) part.entry)
@@ -89,8 +90,8 @@ impl<I: ArrayToBytesCodecTraits, X: ArrayToBytesCodecTraits> ShardingCodec<I, X>
         tested: TestedPart<'_>,
         part: ArrayPart<'_>,
     ) -> Result<bool, CodecError>
-        requires tested { IsTestedPart (shard_chain I.meaning X.meaning self.now)
-            (elements_of part.elements.now) part.shape.now (asked_of part.indexer)
+        requires tested { IsTestedPart
+            (coded_part (shard_chain I.meaning X.meaning self.now) part) (asked_of part.indexer)
             (payload_of tested.bytes.now) tested.size
             (numbers_asked part.shape.now (asked_of part.indexer)) }
         ensures ok { IsTrue (E.is_honest source.old) → IfOk result (AppendsPart
@@ -101,10 +102,11 @@ impl<I: ArrayToBytesCodecTraits, X: ArrayToBytesCodecTraits> ShardingCodec<I, X>
         ensures cause { IsTrue (E.is_honest source.old) → NotEncodedInto
             (coded_part (shard_chain I.meaning X.meaning self.now) part.entry)
             (update_part part.entry tested.entry.bytes.now (E.contents source.old)) result }
-        ensures given { IsTrue (E.is_honest source.old) → IsTrue (E.writes_ranges source.old) →
+        ensures given { IsTrue (E.is_honest source.old) →
             E.given_bytes source.new ≤ E.given_bytes source.old + most_to_write
             (coded_part (shard_chain I.meaning X.meaning self.now) part.entry)
-            (update_part part.entry tested.entry.bytes.now (E.contents source.old)) }
+            (update_part part.entry tested.entry.bytes.now (E.contents source.old))
+            + most_tried (E.writes_ranges source.old) (E.contents source.old) result }
         ensures call { TriedToWrite E.BytesPartialEncoderTraits.own E.BytesPartialDecoderTraits
             source.old source.new result }
     {
@@ -154,16 +156,17 @@ impl<I: ArrayToBytesCodecTraits, X: ArrayToBytesCodecTraits> ShardingCodec<I, X>
         requires many { product given.layout.shape.now ≡ 2 * length (pairs_in known) }
         requires below { list_all (is_below (length (pairs_in known))) given.changes.items ≡ true }
         ensures ok { IsTrue (E.is_honest source.old) → IfOk result
-            (AppendsChanges (X.meaning (index_of self.now)) (X.is_function (index_of self.now))
-            (location_of given.entry.layout.location) given.entry.layout.shape.now
-            (changes_of given.entry.changes.items) (end_of known) (pairs_in known)
-            (E.contents source.old) (E.contents source.new)) }
+            (AppendsChanges (index_coding (X.meaning (index_of self.now))
+            (X.is_function (index_of self.now)) (location_of given.entry.layout.location)
+            given.entry.layout.shape.now) (shard_write (changes_of given.entry.changes.items)
+            (end_of known) (pairs_in known) (E.contents source.old)) (E.contents source.new)) }
         ensures cause { IsTrue (E.is_honest source.old) → ChangesUnwritten
             (X.meaning (index_of self.now)) given.entry.layout.shape.now
             (pairs_after (end_of known) (changes_of given.entry.changes.items) (pairs_in known))
             result }
-        ensures given { IsTrue (E.writes_ranges source.old) →
-            E.given_bytes source.new ≡ E.given_bytes source.old }
+        ensures given { IsTrue (E.is_honest source.old) →
+            E.given_bytes source.new ≤ E.given_bytes source.old
+            + most_tried (E.writes_ranges source.old) (E.contents source.old) result }
         ensures call { TriedToWrite E.BytesPartialEncoderTraits.own E.BytesPartialDecoderTraits
             source.old source.new result }
     {

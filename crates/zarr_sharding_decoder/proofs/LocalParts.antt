@@ -15,7 +15,7 @@ use Rattle.zarr_codecs_meaning.proofs.Lists.{each_passes}
 use Rattle.zarr_codecs_meaning.proofs.Parts.{index_product}
 use Rattle.zarr_codecs_meaning.proofs.Positions.{each_at}
 use Rattle.zarr_sharding_codec.specs.BytesMet.{is_met}
-use Rattle.zarr_sharding_codec.specs.Reading.{shard_cell, shard_cells}
+use Rattle.zarr_sharding_codec.specs.Reading.{shard_cell, shard_cells, subchunks_of}
 use Rattle.zarr_sharding_codec.proofs.PlaceCells.{shard_place}
 use Rattle.zarr_sharding_index.specs.Held.{IsIndexHeld}
 use Rattle.zarr_sharding_places.specs.Locating.{inside_of, part_shape, subchunk_of}
@@ -29,14 +29,14 @@ map_alike f g (n ∷ ns) same =
 
 -- a part is the cells at its places
 part_of_shard : (s : ShardOf) (numbers value : List ℕ) (pairs : List Pair) → IsIndexHeld s.index s.location (index_shape s.shape s.subchunk) value pairs
-    → part_decoded (chain_of s) s.elements s.shape value numbers ≡ shard_cells s.inner s.elements s.shape s.subchunk value pairs numbers
+    → part_decoded (chain_of s) s.elements s.shape value numbers ≡ shard_cells (subchunks_of s.inner s.elements s.shape s.subchunk) value pairs numbers
 part_of_shard s numbers value pairs held =
     let meet = λ (n : ℕ). cell_of_part (cell_at s.inner s.elements) s.elements.fill value n (parts_of s.shape s.subchunk) in
     ap (λ (o : Option (List Pair)). if is_some o then all_there (map (λ n. option_and_then (meet n) o) numbers) else None) held.is
 
 -- the cell at a place depends on its slice
 place_alike : (s : ShardOf) (numbers value other : List ℕ) (i : ℕ) → fits (chain_of s) s.elements.type s.shape ≡ true → list_all (λ n. nat_lt n (product s.shape)) numbers ≡ true → (alike : MeetAlike s numbers value other) → i < length numbers
-    → shard_cell s.inner s.elements s.shape s.subchunk value alike.pairs (get_or numbers i 0) ≡ shard_cell s.inner s.elements s.shape s.subchunk other alike.pairs (get_or numbers i 0)
+    → shard_cell (subchunks_of s.inner s.elements s.shape s.subchunk) value alike.pairs (get_or numbers i 0) ≡ shard_cell (subchunks_of s.inner s.elements s.shape s.subchunk) other alike.pairs (get_or numbers i 0)
 place_alike s numbers value other i fit inside alike below =
     let n = get_or numbers i 0 in
     let pairs = alike.pairs in
@@ -55,5 +55,5 @@ place_alike s numbers value other i fit inside alike below =
 pub part_is_local : PartIsLocal
 part_is_local s numbers value other fit inside alike =
     part_of_shard s numbers value alike.pairs alike.first
-    ∙ (ap all_there (map_alike (shard_cell s.inner s.elements s.shape s.subchunk value alike.pairs) (shard_cell s.inner s.elements s.shape s.subchunk other alike.pairs) numbers (λ i below. place_alike s numbers value other i fit inside alike below))
+    ∙ (ap all_there (map_alike (shard_cell (subchunks_of s.inner s.elements s.shape s.subchunk) value alike.pairs) (shard_cell (subchunks_of s.inner s.elements s.shape s.subchunk) other alike.pairs) numbers (λ i below. place_alike s numbers value other i fit inside alike below))
     ∙ sym (part_of_shard s numbers other alike.pairs alike.second))

@@ -55,11 +55,6 @@ abbrev pub stored_slice : ShardOf → Option (List ℕ) → List ℕ → Option 
 stored_slice s None indices = None
 stored_slice s (Some value) indices = option_and_then (slice_at value) (stored_pair s (Some value) indices)
 
--- how many bytes a pair says that a slice has
-abbrev pub length_in : Option Pair → ℕ
-length_in None = 0
-length_in (Some pair) = pair.1
-
 -- where a subchunk stands, or that there is no such subchunk
 abbrev pub FindsPair : ShardOf → Option (List ℕ) → List ℕ → Result (Option ByteRange) CodecError → Type 0
 FindsPair s contents indices (Ok found) = IsIndex indices (grid_of s.shape s.subchunk) × (option_map pair_of found ≡ stored_pair s contents indices)

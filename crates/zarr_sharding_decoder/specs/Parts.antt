@@ -1,6 +1,5 @@
 -- Elements read from the shard that a source holds.
-use Rattle.std.specs.Prelude.{◌⊎◌, ℕ, List, Option, None, Some, Result, Err}
-use Rattle.zarr_codecs_meaning.specs.Encoding.{Pair}
+use Rattle.std.specs.Prelude.{◌⊎◌, ℕ, List, [], length, Option, None, Some, unwrap_or, Result, Err}
 use Rattle.zarr_codecs_meaning.specs.Payloads.{Payload}
 use Rattle.zarr_codecs_arrays.specs.declared.array_bytes.ArrayBytes.{ArrayBytes}
 use Rattle.zarr_codecs_arrays.specs.declared.error.CodecError.{CodecError}
@@ -8,6 +7,7 @@ use Rattle.zarr_codecs_traits.specs.Indexers.{Asked, numbers_asked}
 use Rattle.zarr_codecs_traits.specs.Arrays.{coded}
 use Rattle.zarr_codecs_traits.specs.Outcomes.{DecodesPart, IsPart}
 use Rattle.zarr_sharding_codec.specs.BytesMet.{bytes_met}
+use Rattle.zarr_sharding_decoder.specs.Pairs.{stored_pairs}
 use Rattle.zarr_sharding_decoder.specs.Shards.{ShardOf, chain_of}
 
 -- the elements at the places that are asked for, of what is stored, or why there are none
@@ -18,10 +18,10 @@ ReadsPart s contents asked result = DecodesPart (coded (chain_of s) s.elements s
 abbrev pub GivesPart : ShardOf → Option (List ℕ) → Asked → Payload → Type 0
 GivesPart s contents asked payload = IsPart (coded (chain_of s) s.elements s.shape) contents asked payload
 
--- how many bytes the slices have of the subchunks that the places lie in, each slice counted once
-abbrev pub slices_met : ShardOf → Option (List Pair) → Asked → ℕ
+-- how many bytes the slices have of the subchunks that the places lie in, of what is stored: each slice is counted once
+abbrev pub slices_met : ShardOf → Option (List ℕ) → Asked → ℕ
 slices_met s None asked = 0
-slices_met s (Some pairs) asked = bytes_met s.shape s.subchunk (numbers_asked s.shape asked) pairs
+slices_met s (Some value) asked = bytes_met s.shape s.subchunk (numbers_asked s.shape asked) (unwrap_or (stored_pairs s value) []) (length value)
 
 -- the elements at the places that are asked for were put over those of a target
 pub record IsPartInto (s : ShardOf) (contents : Option (List ℕ)) (asked : Asked) (puts : Payload → Type 0) : Type 0 where

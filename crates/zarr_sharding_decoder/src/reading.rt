@@ -5,12 +5,12 @@ use std::marker::Sync;
 use std::thread::Threads;
 use zarr_codecs_arrays::{ArrayBytes, CodecError};
 use zarr_codecs_options::CodecOptions;
-use zarr_codecs_regions::{count_asked, test_asked};
+use zarr_codecs_regions::{fill_asked, test_asked};
 use zarr_codecs_traits::{
-    ArrayBytesDecodeIntoTarget, ArrayToBytesCodecTraits, BytesPartialDecoderTraits, Indexer,
+    ArrayBytesDecodeIntoTarget, ArrayPart, ArrayToBytesCodecTraits, BytesPartialDecoderTraits,
+    Indexer,
 };
 use zarr_grids_boxes::walk::count_places;
-use zarr_sharding_codec::partial::fill_elements;
 use zarr_sharding_codec::{IndexedPlaces, OpenedShard};
 
 impl<
@@ -46,7 +46,7 @@ impl<
             (D.refused_calls (source_of self.new)) }
         ensures given { IsTrue (D.is_honest (source_of self.old)) →
             D.given_bytes (source_of self.new) ≤ D.given_bytes (source_of self.old) + slices_met
-            (shard_of I.meaning X.meaning self.old) (pairs_held self.old)
+            (shard_of I.meaning X.meaning self.old) (D.contents (source_of self.old))
             (asked_of indexer.entry) }
         ensures follows { D.follows (source_of self.old) (source_of self.new) }
         ensures same_reference { reference_of self.new ≡ reference_of self.old }
@@ -61,10 +61,12 @@ impl<
             return Err(CodecError::Size);
         }
         let Some(fetched) = &self.held else {
-            let Some(count) = count_asked(self.shape, indexer) else {
-                return Err(CodecError::Memory);
+            let part = ArrayPart {
+                elements: self.elements,
+                shape: self.shape,
+                indexer,
             };
-            return Ok(fill_elements(alloc, self.elements, count as usize)?);
+            return fill_asked(alloc, part);
         };
         let shard = OpenedShard {
             pairs: &fetched.pairs,
@@ -102,7 +104,7 @@ impl<
         ensures follows { D.follows (source_of self.old) (source_of self.new) }
         ensures given { IsTrue (D.is_honest (source_of self.old)) →
             D.given_bytes (source_of self.new) ≤ D.given_bytes (source_of self.old) + slices_met
-            (shard_of I.meaning X.meaning self.old) (pairs_held self.old)
+            (shard_of I.meaning X.meaning self.old) (D.contents (source_of self.old))
             (asked_of indexer.entry) }
         ensures same_reference { reference_of self.new ≡ reference_of self.old }
         ensures shard { shard_of I.meaning X.meaning self.new

@@ -14,8 +14,8 @@ impl<
     D: BytesPartialDecoderTraits,
 > ShardingPartialDecoder<'a, I, X, D> {
     ghost use Rattle.std.specs.Prelude.{◌≡◌, ◌≤◌, ◌+◌, ℕ, IsTrue};
-    ghost use Rattle.zarr_codecs_traits.specs.Sources.{refused_after};
-    ghost use Rattle.zarr_sharding_decoder.specs.Pairs.{FindsPair, RetrievesSlice, length_in, stored_pair};
+    ghost use Rattle.zarr_codecs_traits.specs.Sources.{refused_after, value_length};
+    ghost use Rattle.zarr_sharding_decoder.specs.Pairs.{FindsPair, RetrievesSlice, stored_slice};
     ghost use Rattle.zarr_sharding_decoder.specs.Views.{pairs_held, reference_of, shard_of, source_of};
 
     /// Where the encoded bytes of the subchunk at these indices stand in the shard, or `None` where
@@ -57,8 +57,8 @@ impl<
         ensures refused { D.refused_calls (source_of self.new) ≡
             refused_after (D.refused_calls (source_of self.old)) result }
         ensures given { IsTrue (D.is_honest (source_of self.old)) →
-            D.given_bytes (source_of self.new) ≤ D.given_bytes (source_of self.old) + length_in
-            (stored_pair (shard_of I.meaning X.meaning self.old) (D.contents (source_of self.old))
+            D.given_bytes (source_of self.new) ≤ D.given_bytes (source_of self.old) + value_length
+            (stored_slice (shard_of I.meaning X.meaning self.old) (D.contents (source_of self.old))
             subchunk_indices.now) }
         ensures follows { D.follows (source_of self.old) (source_of self.new) }
         ensures same_reference { reference_of self.new ≡ reference_of self.old }

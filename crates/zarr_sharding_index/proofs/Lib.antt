@@ -6,3 +6,4 @@ pub mod HeldIndex
 pub mod Sizes
 pub mod Listed
 pub mod Searched
+pub mod GivenSlices

@@ -1,5 +1,5 @@
 //! The index of a shard as the shard holds it.
-ghost use Rattle.std.specs.Prelude.{◌≡◌, ◌≤◌, ◌+◌, ◌%◌, ◌∷◌, [], ℕ, List, Some, length, nat_le, true, IsTrue};
+ghost use Rattle.std.specs.Prelude.{◌≡◌, ◌<◌, ◌≤◌, ◌+◌, ◌%◌, ◌∷◌, [], ℕ, List, Some, length, nat_le, true, IsTrue};
 ghost use Rattle.zarr_codecs_meaning.specs.Encoding.{index_size};
 ghost use Rattle.zarr_codecs_traits.specs.Sources.{part_lists, refused_after, value_bytes, value_length};
 ghost use Rattle.zarr_grids_boxes.specs.Boxes.{product};
@@ -57,9 +57,9 @@ pub fn decode_index<X: ArrayToBytesCodecTraits>(
     }
 }
 
-/// The index of the shard that a source holds, of which nothing else is fetched, or `None` where it
-/// holds none: at most the index's bytes are taken from an honest source, and never more than it
-/// has. Errors as those of `decode_index`, and `Source` where the source refuses.
+/// The index of the shard that a source holds, or `None` where it holds none. An honest source
+/// gives at most as many bytes as an index has, and never more than its value has. Errors as those
+/// of `decode_index`, and `Source` where the source refuses.
 pub fn fetch_index<X: ArrayToBytesCodecTraits, D: BytesPartialDecoderTraits>(
     alloc: Global,
     codec: &X,
@@ -102,8 +102,8 @@ pub fn fetch_index<X: ArrayToBytesCodecTraits, D: BytesPartialDecoderTraits>(
 }
 
 /// The bytes of a pair of the value that a source holds, which has `total` bytes; an honest source
-/// gives no others. `Damage` where the pair ends past the end of the value, and `Source` where the
-/// source refuses.
+/// gives at most as many. `Damage` where the pair ends past the end of the value: then the source
+/// gives nothing. `Source` where the source refuses.
 pub fn fetch_slice<D: BytesPartialDecoderTraits>(
     alloc: Global,
     source: &mut D,
@@ -117,6 +117,8 @@ pub fn fetch_slice<D: BytesPartialDecoderTraits>(
         refused_after (D.refused_calls source.old) result }
     ensures given { IsTrue (D.is_honest source.old) →
         D.given_bytes source.new ≤ D.given_bytes source.old + pair.length }
+    ensures past { total < pair.offset + pair.length →
+        D.given_bytes source.new ≡ D.given_bytes source.old }
     ensures follows { D.follows source.old source.new }
 {
     if !ends_within(pair, total) {

@@ -1,20 +1,21 @@
 -- What a call that writes leaves of a source and of what is known of its shard.
-use Rattle.std.specs.Prelude.{◌≡◌, ◌+◌, ◌^◌, ◌<◌, List, [], ◌∷◌, length, Some, IsTrue, OnErr, OnOk, Result}
+use Rattle.std.specs.Prelude.{◌≡◌, ◌+◌, ◌^◌, ◌<◌, ◌≤◌, List, [], ◌∷◌, length, Some, IsTrue, OnErr, OnOk, Result}
 use Rattle.zarr_codecs_arrays.specs.declared.error.CodecError.{CodecError}
 use Rattle.zarr_codecs_traits.specs.declared.byte_source.BytesPartialDecoderTraits as source
 use Rattle.zarr_codecs_traits.specs.declared.byte_target.BytesPartialEncoderTraits as target
 use Rattle.zarr_codecs_traits.specs.Sources.{refused_after}
-use Rattle.zarr_codecs_traits.specs.Writes.{accepted_after}
+use Rattle.zarr_codecs_traits.specs.Writes.{accepted_after, most_to_patch}
 use Rattle.zarr_sharding_changes.specs.Changes.{Change, appended, pairs_after}
 use Rattle.zarr_sharding_state.specs.States.{end_of, pairs_in}
 use Rattle.zarr_sharding_state.specs.declared.giving.GivenSlice.{GivenSlice}
 use Rattle.zarr_sharding_state.specs.declared.known.KnownShard.{KnownShard}
 
--- a source after a call that writes to it once at most: an error leaves what an honest one holds, its refusals and accepted writes are counted, and where it writes ranges, no byte of the value is read to do so
+-- a source after a call that writes to it once at most: an error leaves what an honest one holds, and its refusals and accepted writes are counted. If it writes ranges, it gives no byte of its value to do so; else an honest one gives the value at most once
 pub record CalledToWrite {E A : Type 0} (e : target.Ghosts E) (d : source.Ghosts E) (old new : E) (result : Result A CodecError) : Type 0 where
   pub err : IsTrue (d.is_honest old) → OnErr result (d.contents new ≡ d.contents old)
   pub refused : d.refused_calls new ≡ refused_after (d.refused_calls old) result
   pub given : IsTrue (e.writes_ranges old) → d.given_bytes new ≡ d.given_bytes old
+  pub taken : IsTrue (d.is_honest old) → d.given_bytes new ≤ d.given_bytes old + most_to_patch (e.writes_ranges old) (d.contents old)
   pub accepted : e.accepted_writes new ≡ accepted_after (e.accepted_writes old) result
   pub rewrites : e.rewrites old new
 

@@ -1,5 +1,5 @@
 -- What is seen of what is known of a shard in a source.
-use Rattle.std.specs.Prelude.{◌≡◌, ℕ, List, Option, None, Some, true, false, if◌then◌else◌, Vec, Result, Ok, Err}
+use Rattle.std.specs.Prelude.{◌≡◌, ℕ, List, Option, None, Some, true, false, Vec, Result, Ok, Err}
 use Rattle.std.specs.declared.alloc.Global.{Global}
 use Rattle.zarr_codecs_meaning.specs.Decoding.{is_absent, slice_at}
 use Rattle.zarr_codecs_meaning.specs.Encoding.{Pair}
@@ -15,10 +15,6 @@ pairs_in shard = all_pairs shard.pairs
 -- where the shard's data part ends
 abbrev pub end_of : KnownShard → ℕ
 end_of shard = shard.end
-
--- how many bytes a slice has by its pair: none where the subchunk is absent
-abbrev pub slice_length : Pair → ℕ
-slice_length pair = if is_absent pair then 0 else pair.1
 
 -- the slice that a pair has in a value, if it is present, or why there is none: it ends past the value, or the source refuses
 abbrev pub HasSliceAt : List ℕ → Pair → Result (Option (Vec ℕ Global)) CodecError → Type 0

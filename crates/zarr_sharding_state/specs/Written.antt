@@ -31,12 +31,12 @@ IsChanged index exact location shape changes end pairs before after ended =
     ((are_absent pairs ≡ true) × (after ≡ None) × (ended ≡ base_of location (index_size index shape)))
     ⊎ IsAppended index exact location shape changes end pairs before after ended
 
--- why changes are not written: the index of the pairs after them is refused, the shard would have 2^63 bytes or more, or the source refuses
+-- why changes are not written: the index of the pairs after them is refused, if a subchunk is present then; the shard would have 2^63 bytes or more; or the source refuses
 abbrev pub ChangesRefused : {A : Type 0} → Chain → Location → List ℕ → List Change → ℕ → List Pair → Result A CodecError → Type 0
 ChangesRefused index location shape changes end pairs (Ok done) = Unit {0}
-ChangesRefused index location shape changes end pairs (Err error.Codec) = CodecRefuses index (zero_filled uint64) shape (pair_cells pairs)
+ChangesRefused index location shape changes end pairs (Err error.Codec) = (are_absent pairs ≡ false) × CodecRefuses index (zero_filled uint64) shape (pair_cells pairs)
 ChangesRefused index location shape changes end pairs (Err error.Size) =
-    (2 ^ 63 ≤ shard_length location (index_size index shape) (end + length (appended changes))) ⊎ PassesIndex index (zero_filled uint64) shape (pair_cells pairs)
+    (2 ^ 63 ≤ shard_length location (index_size index shape) (end + length (appended changes))) ⊎ ((are_absent pairs ≡ false) × PassesIndex index (zero_filled uint64) shape (pair_cells pairs))
 ChangesRefused index location shape changes end pairs (Err error.Source) = Unit {0}
 ChangesRefused index location shape changes end pairs (Err error.Memory) = Unit {0}
 ChangesRefused index location shape changes end pairs (Err e) = ⊥

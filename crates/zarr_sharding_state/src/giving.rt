@@ -127,6 +127,7 @@ impl KnownShard {
 
     /// Appends a slice to the data part, and writes the index of the pairs that are known, some of
     /// which are present. An `Err` leaves the shard as it was; what is known of it stays.
+    #[tactic(auto, using(crate::proofs::Appending::index_unwritten))]
     fn append_slice<X: ArrayToBytesCodecTraits, E: BytesPartialEncoderTraits>(
         &self,
         alloc: Global,

@@ -31,6 +31,7 @@ impl KnownShard {
     ghost use Rattle.std.specs.List.{list_all};
     ghost use Rattle.zarr_codecs_meaning.specs.Decoding.{is_absent};
     ghost use Rattle.zarr_codecs_meaning.specs.Encoding.{absent_pair, base_of, index_size};
+    ghost use Rattle.zarr_codecs_traits.specs.ReadBytes.{slice_length};
     ghost use Rattle.zarr_codecs_traits.specs.Sources.{refused_after, value_length};
     ghost use Rattle.zarr_codecs_traits.specs.Writes.{WriteRefused, accepted_after};
     ghost use Rattle.zarr_grids_boxes.specs.Boxes.{product};
@@ -41,7 +42,7 @@ impl KnownShard {
     ghost use Rattle.zarr_sharding_state.specs.Calls.{CalledToWrite, KnownAfter};
     ghost use Rattle.zarr_sharding_state.specs.Held.{IsOpened, shard_length};
     ghost use Rattle.zarr_sharding_state.specs.Opened.{OpenRefused};
-    ghost use Rattle.zarr_sharding_state.specs.States.{HasSliceAt, end_of, pairs_in, slice_length};
+    ghost use Rattle.zarr_sharding_state.specs.States.{HasSliceAt, end_of, pairs_in};
     ghost use Rattle.zarr_sharding_state.specs.Views.{changes_of, is_below};
     ghost use Rattle.zarr_sharding_state.specs.Written.{AppendRefused, ChangesRefused, IsChanged, with_slices};
 
@@ -111,7 +112,8 @@ impl KnownShard {
 
     /// The encoded bytes of a subchunk, by its row-major number, or `None` where it is absent.
     /// `Source` where the source refuses; `Damage` where the source no longer holds the slice. An
-    /// honest source gives the bytes of this slice and no others.
+    /// honest source gives at most as many bytes as the slice has, and none where the pair ends
+    /// past the end of the shard.
     pub fn retrieve_subchunk_encoded<D: BytesPartialDecoderTraits>(
         &self,
         alloc: Global,
@@ -130,7 +132,9 @@ impl KnownShard {
         ensures refused { D.refused_calls source.new ≡
             refused_after (D.refused_calls source.old) result }
         ensures given { IsTrue (D.is_honest source.old) → D.given_bytes source.new
-            ≤ D.given_bytes source.old + slice_length (get_or (pairs_in self.now) n absent_pair) }
+            ≤ D.given_bytes source.old + slice_length (shard_length
+            (location_of layout.entry.location) layout.entry.size (end_of self.now))
+            (get_or (pairs_in self.now) n absent_pair) }
         ensures follows { D.follows source.old source.new }
     {
         let pair = self.pairs.get(n);
@@ -144,7 +148,7 @@ impl KnownShard {
     }
 
     /// Takes the shard away, so that each subchunk is absent. An `Err` leaves the shard and what is
-    /// known of it as they were. `Source` where the source refuses.
+    /// known of it as they were. `Source` where the source refuses. No byte is given to do so.
     pub fn erase<E: BytesPartialEncoderTraits>(
         &mut self,
         alloc: Global,
@@ -164,6 +168,7 @@ impl KnownShard {
         ensures cause { WriteRefused result }
         ensures refused { E.refused_calls source.new ≡
             refused_after (E.refused_calls source.old) result }
+        ensures given { E.given_bytes source.new ≡ E.given_bytes source.old }
         ensures accepted { E.accepted_writes source.new ≡
             accepted_after (E.accepted_writes source.old) result }
         ensures rewrites { E.rewrites source.old source.new }
@@ -200,11 +205,11 @@ impl KnownShard {
         }
     }
 
-    /// Replaces the slices of some subchunks: the new ones are appended to the data part, and a
-    /// subchunk that became all fill becomes absent. Slices and index go out in one writing call of
-    /// the source; where no subchunk is left, the shard is erased. An `Err` leaves the shard and
-    /// what is known of it as they were: `Codec` where a caller's codec refuses the new index,
-    /// `Size` where the shard would have 2^63 bytes or more, and `Source` where the source refuses.
+    /// Replaces slices of subchunks: new ones are appended, and go out with the index in one
+    /// writing call; where no subchunk is left, the shard is erased, and no index is made.
+    /// `Codec` where a caller's codec refuses the index, `Size` where the shard would have 2^63
+    /// bytes or more, `Source` where the source refuses; a refusal changes nothing.
+    #[tactic(auto, using(crate::proofs::Appending::index_unwritten))]
     pub fn write_slices<X: ArrayToBytesCodecTraits, E: BytesPartialEncoderTraits>(
         &mut self,
         alloc: Global,

@@ -60,7 +60,7 @@ returns-clause-cause g c = λ honest.
     c.as_slice-array_to_array.ensures.value (c.encode_part_after.ensures.writes honest kept).cause
 
 pub returns-clause-given : goal.returns-clause-given
-returns-clause-given g c = λ honest ranges.
+returns-clause-given g c = λ honest.
     let E = g.E.BytesPartialDecoderTraits in
     let bytes = g.B.BytesToBytesCodecTraits.meaning in
     let inner = g.I.ArrayToBytesCodecTraits.meaning in
@@ -71,8 +71,8 @@ returns-clause-given g c = λ honest ranges.
     let told : not (any_reshape codecs) ≡ true = ap not (sym c.has_reshape.ensures ∙ c.if-has_reshape.false) in
     let kept : encodes_in_part (with_array_codecs codecs rest) ≡ encodes_in_part rest = sym (parts_before codecs rest shards) ∙ ap (λ (b : Bool). b && encodes_in_part rest) told in
     subst
-    (λ (codecs : List ArrayToArrayCodec). GivesWriting (coded_part (with_array_codecs (codecs_of codecs) rest) c.args.part) (update_part c.args.part c.args.bytes (E.contents c.args.source.now)) (E.given_bytes c.args.source.now) (E.given_bytes c.encode_part_after.new.source))
-    c.as_slice-array_to_array.ensures.value ((c.encode_part_after.ensures.writes honest kept).given ranges)
+    (λ (codecs : List ArrayToArrayCodec). GivesWriting (coded_part (with_array_codecs (codecs_of codecs) rest) c.args.part) (update_part c.args.part c.args.bytes (E.contents c.args.source.now)) (g.E.BytesPartialEncoderTraits.writes_ranges c.args.source.now) (E.given_bytes c.args.source.now) (E.given_bytes c.encode_part_after.new.source))
+    c.as_slice-array_to_array.ensures.value ((c.encode_part_after.ensures.writes honest kept).given)
 
 pub returns-then-has_reshape-clause-parts : goal.returns-then-has_reshape-clause-parts
 returns-then-has_reshape-clause-parts g c = λ honest.
@@ -101,7 +101,7 @@ returns-then-has_reshape-clause-cause g c = λ honest.
     whole_not_put {A = Unit {0}} (coded_part chain c.args.part) (update_part c.args.part c.args.bytes stored) c.encode_whole.result whole (c.encode_whole.ensures.cause honest)
 
 pub returns-then-has_reshape-clause-given : goal.returns-then-has_reshape-clause-given
-returns-then-has_reshape-clause-given g c = λ honest ranges.
+returns-then-has_reshape-clause-given g c = λ honest.
     let bytes = g.B.BytesToBytesCodecTraits.meaning in
     let inner = g.I.ArrayToBytesCodecTraits.meaning in
     let own = c.args.self.now in
@@ -111,4 +111,4 @@ returns-then-has_reshape-clause-given g c = λ honest ranges.
     let shards : is_plain rest ≡ false = shards_between [] (shard_chain inner (meaning_of bytes) (shard_of own)) (map bytes (bytes_of own)) refl in
     let told : not (any_reshape (codecs_of (arrays_of own))) ≡ false = ap not (ap (λ (codecs : List ArrayToArrayCodec). any_reshape (codecs_of codecs)) (sym c.as_slice-array_to_array.ensures.value) ∙ (sym c.has_reshape.ensures ∙ c.if-has_reshape.true)) in
     let whole : encodes_in_part chain ≡ false = sym (parts_before (codecs_of (arrays_of own)) rest shards) ∙ ap (λ (b : Bool). b && encodes_in_part rest) told in
-    whole_given (coded_part chain c.args.part) (update_part c.args.part c.args.bytes stored) (g.E.BytesPartialDecoderTraits.given_bytes c.args.source.now) (g.E.BytesPartialDecoderTraits.given_bytes c.encode_whole.new.source) whole (c.encode_whole.ensures.given honest)
+    whole_given (coded_part chain c.args.part) (update_part c.args.part c.args.bytes stored) (g.E.BytesPartialEncoderTraits.writes_ranges c.args.source.now) (g.E.BytesPartialDecoderTraits.given_bytes c.args.source.now) (g.E.BytesPartialDecoderTraits.given_bytes c.encode_whole.new.source) whole (c.encode_whole.ensures.given honest)

@@ -1,10 +1,11 @@
 use Rattle.zarr_codecs_arrays.specs.Views.{elements_of, payload_of}
-use Rattle.std.proofs.Common.{refl}
+use Rattle.std.proofs.Common.{arith}
 use Rattle.zarr_codecs_regions.proofs.AskedPlaces as regions
-use Rattle.zarr_codecs_traits.specs.Indexers.{asked_of, numbers_asked}
+use Rattle.zarr_codecs_traits.specs.Indexers.{asked_of}
 use Rattle.zarr_sharding_decoder.specs.Shards.{ShardOf}
 use Rattle.zarr_sharding_index.specs.Views.{location_of}
 use Rattle.zarr_sharding_state.specs.States.{end_of, pairs_in}
+use Rattle.zarr_sharding_cells.specs.Puts.{Putting}
 use Rattle.zarr_sharding_cells.specs.Tables.{Held, held_as}
 use Rattle.zarr_sharding_cells.proofs.Known.{pairs_count}
 use Rattle.zarr_sharding_cells.proofs.PutInto.{IsKnown, put_ok, put_refused}
@@ -27,7 +28,6 @@ returns-in-Ok-clause-ok g c = λ honest told.
     let asked = asked_of c.args.indexer in
     let payload = payload_of c.args.bytes in
     let exact = g.I.ArrayToBytesCodecTraits.is_function codec.inner_codecs in
-    let numbers = numbers_asked s.shape asked in
     let a = c.in-Ok.ensures.ok in
     let made = c.put_asked.new.self in
     let new : Held = held_as (contents made.source) (pairs_in made.known) (end_of made.known) in
@@ -43,7 +43,8 @@ returns-in-Ok-clause-ok g c = λ honest told.
       count = pairs_count s self.pairs_shape.items old.pairs self.cut self.many;
       told = told;
     } in
-    put_ok c.put_asked.result s exact (g.X.ArrayToBytesCodecTraits.is_function codec.index_codecs) asked payload numbers numbers old new a refl (regions.asked_places s.shape asked a.given.inside) known (c.put_asked.ensures.ok honest told a.cells a.given.valid)
+    let put : Putting = record { shard = s; exact = exact; one = g.X.ArrayToBytesCodecTraits.is_function codec.index_codecs; asked = asked; payload = payload } in
+    put_ok c.put_asked.result put a.cells old new a.given (regions.asked_places s.shape asked a.given.inside) known (c.put_asked.ensures.ok honest told a.cells a.given.valid)
 
 pub returns-in-Ok-clause-cause : goal.returns-in-Ok-clause-cause
 returns-in-Ok-clause-cause g c = λ honest told.
@@ -60,9 +61,13 @@ returns-in-Ok-clause-cause g c = λ honest told.
     } in
     let old : Held = held_as (contents self.source) (pairs_in self.known) (end_of self.known) in
     let asked = asked_of c.args.indexer in
-    let numbers = numbers_asked s.shape asked in
     let a = c.in-Ok.ensures.ok in
-    put_refused c.put_asked.result s (g.I.ArrayToBytesCodecTraits.is_function codec.inner_codecs) asked (payload_of c.args.bytes) numbers numbers old a refl (c.put_asked.ensures.cause honest told a.cells a.given.valid)
+    let exact = g.I.ArrayToBytesCodecTraits.is_function codec.inner_codecs in
+    let put : Putting = record { shard = s; exact = exact; one = g.X.ArrayToBytesCodecTraits.is_function codec.index_codecs; asked = asked; payload = payload_of c.args.bytes } in
+    put_refused c.put_asked.result put a.cells old a.given (c.put_asked.ensures.cause honest told a.cells a.given.valid)
+
+pub returns-in-Err-clause-given : goal.returns-in-Err-clause-given
+returns-in-Err-clause-given g c = record { all = λ honest. omega arith; unwritten = λ honest first. omega arith }
 
 pub put_asked-requires : goal.put_asked-requires
 put_asked-requires g c = c.in-Ok.ensures.ok.given.inside

@@ -1,18 +1,23 @@
-use Rattle.std.proofs.Common.{◌≡◌, ◌∙◌, ◌*◌, ap, sym, subst, IsTrue, List, ℕ, Option, OnErr, OnOk}
-use Rattle.zarr_codecs_arrays.specs.Views.{elements_of}
+use Rattle.std.proofs.Common.{◌≡◌, ◌∙◌, ◌+◌, ◌*◌, ◌≤◌, ap, arith, sym, subst, Bool, IsTrue, List, ℕ, Option, OnErr, OnOk}
+use Rattle.zarr_codecs_arrays.specs.Views.{elements_of, payload_of}
 use Rattle.zarr_codecs_meaning.specs.Chains.{Location}
 use Rattle.zarr_codecs_meaning.specs.Encoding.{index_size}
 use Rattle.zarr_codecs_meaning.specs.Places.{index_shape}
 use Rattle.zarr_codecs_traits.specs.Indexers.{asked_of, numbers_asked}
+use Rattle.zarr_codecs_traits.specs.Writes.{most_to_patch}
 use Rattle.zarr_sharding_changes.specs.Changes.{pairs_after}
+use Rattle.zarr_sharding_codec.specs.BytesMet.{bytes_met}
 use Rattle.zarr_sharding_codec.specs.PartWriting.{IsOf, put_at}
 use Rattle.zarr_sharding_codec.proofs.EncodedShard.{index_part}
+use Rattle.zarr_sharding_decoder.specs.Pairs.{index_length}
 use Rattle.zarr_sharding_decoder.specs.Shards.{ShardOf}
 use Rattle.zarr_sharding_index.specs.Stored.{index_fits}
 use Rattle.zarr_sharding_index.specs.Views.{location_of}
+use Rattle.zarr_sharding_state.specs.Held.{shard_length}
 use Rattle.zarr_sharding_state.specs.States.{end_of, pairs_in}
 use Rattle.zarr_sharding_state.specs.Views.{changes_of}
 use Rattle.zarr_sharding_state.specs.Written.{ChangesRefused, IsChanged}
+use Rattle.zarr_sharding_cells.specs.Puts.{Putting}
 use Rattle.zarr_sharding_cells.specs.Tables.{Held, held_as}
 use Rattle.zarr_sharding_cells.proofs.Changed.{IsAfter, after_count, after_refused, after_told, after_written, changed_as, refused_as}
 use Rattle.zarr_sharding_cells.proofs.Known.{again_told, pairs_count, told_again, told_of}
@@ -130,7 +135,8 @@ returns-in-Ok-clause-ok g c = λ honest told cells valid.
     subst (λ (l : Location). IsOf l self.size old.contents old.pairs old.end) (sym c.index_location.ensures) (subst (λ n. IsOf s.location n old.contents old.pairs old.end) (sym size_is) (told_of s old told)) in
     let exact = g.I.ArrayToBytesCodecTraits.is_function codec.inner_codecs in
     let still = subst IsTrue (laws.honest _ _ follows) honest in
-    after_written result s exact one (put_at s.shape s.subchunk (numbers_asked s.shape (asked_of c.args.indexer)) cells) changes old new (after_call still) (c.in-Ok.ensures.changes honest of cells valid)
+    let put : Putting = record { shard = s; exact = exact; one = one; asked = asked_of c.args.indexer; payload = payload_of c.args.bytes } in
+    after_written result put cells changes old new (after_call still) (c.in-Ok.ensures.changes honest of cells valid)
 
 pub returns-in-Ok-clause-cause : goal.returns-in-Ok-clause-cause
 returns-in-Ok-clause-cause g c = λ honest told cells valid.
@@ -194,12 +200,61 @@ returns-in-Err-clause-cause g c = λ honest told cells valid.
     unchanged s exact (put_at s.shape s.subchunk (numbers_asked s.shape (asked_of c.args.indexer)) cells) old c.in-Err.error (c.in-Err.ensures.changes honest of cells valid)
 
 pub returns-in-Ok-clause-given : goal.returns-in-Ok-clause-given
-returns-in-Ok-clause-given g c = λ honest.
-    let still = subst IsTrue (g.met.E.BytesPartialDecoderTraits.honest _ _ c.in-Ok.ensures.follows) honest in
+returns-in-Ok-clause-given g c =
     let self = c.args.self.now in
-    let changes = changes_of c.in-Ok.changes.items in
+    let codec = self.codec.now in
+    let s : ShardOf = record {
+      subchunk = codec.subchunk_shape;
+      inner = g.I.ArrayToBytesCodecTraits.meaning codec.inner_codecs;
+      index = g.X.ArrayToBytesCodecTraits.meaning codec.index_codecs;
+      location = location_of codec.index_location;
+      elements = elements_of self.elements.now;
+      shape = self.shape.now;
+    } in
+    let D = g.E.BytesPartialDecoderTraits in
+    let numbers = numbers_asked s.shape (asked_of c.args.indexer) in
+    let pairs = pairs_in self.known in
     let end = end_of self.known in
-    written_after _ _ (g.X.ArrayToBytesCodecTraits.meaning c.index_codecs-codecs.result.now) (location_of c.index_location.result) c.as_slice.result.now changes end (pairs_after end changes (pairs_in self.known)) c.write_given.result (c.write_given.ensures.cause still)
+    let size_is = self.sized ∙ ap (index_size s.index) self.cut in
+    let long : shard_length (location_of c.index_location.result) self.size end ≡ shard_length s.location (index_length s) end = ap (λ (l : Location). shard_length l self.size end) c.index_location.ensures ∙ ap (λ n. shard_length s.location n end) size_is in
+    let ranges = g.E.BytesPartialEncoderTraits.writes_ranges in
+    let laws = g.met.E.BytesPartialDecoderTraits in
+    let follows = c.in-Ok.ensures.follows in
+    let changes = changes_of c.in-Ok.changes.items in
+    record {
+      all = λ honest.
+          let still = subst IsTrue (laws.honest _ _ follows) honest in
+          let first = g.met.E.BytesPartialEncoderTraits.still_ranges _ _ (g.met.E.BytesPartialEncoderTraits.reads _ _ follows) in
+          let patch = ap (λ (b : Bool). most_to_patch b (D.contents self.source)) first ∙ ap (most_to_patch (ranges c.update_asked.new.source)) (laws.same _ _ follows) in
+          let few = subst (λ n. D.given_bytes c.update_asked.new.source ≤ D.given_bytes self.source + bytes_met s.shape s.subchunk numbers pairs n) long (c.in-Ok.ensures.given honest) in
+          let taken = c.write_given.ensures.call.taken still in
+          omega (arith, few, patch, taken);
+      unwritten = λ honest.
+          let still = subst IsTrue (laws.honest _ _ follows) honest in
+          written_after _ _ (g.X.ArrayToBytesCodecTraits.meaning c.index_codecs-codecs.result.now) (location_of c.index_location.result) c.as_slice.result.now changes end (pairs_after end changes pairs) c.write_given.result (c.write_given.ensures.cause still);
+    }
 
 pub returns-in-Err-clause-given : goal.returns-in-Err-clause-given
-returns-in-Err-clause-given g c = λ honest first. c.in-Err.ensures.given honest
+returns-in-Err-clause-given g c =
+    let self = c.args.self.now in
+    let codec = self.codec.now in
+    let s : ShardOf = record {
+      subchunk = codec.subchunk_shape;
+      inner = g.I.ArrayToBytesCodecTraits.meaning codec.inner_codecs;
+      index = g.X.ArrayToBytesCodecTraits.meaning codec.index_codecs;
+      location = location_of codec.index_location;
+      elements = elements_of self.elements.now;
+      shape = self.shape.now;
+    } in
+    let D = g.E.BytesPartialDecoderTraits in
+    let numbers = numbers_asked s.shape (asked_of c.args.indexer) in
+    let pairs = pairs_in self.known in
+    let end = end_of self.known in
+    let size_is = self.sized ∙ ap (index_size s.index) self.cut in
+    let long : shard_length (location_of c.index_location.result) self.size end ≡ shard_length s.location (index_length s) end = ap (λ (l : Location). shard_length l self.size end) c.index_location.ensures ∙ ap (λ n. shard_length s.location n end) size_is in
+    record {
+      all = λ honest.
+          let few = subst (λ n. D.given_bytes c.update_asked.new.source ≤ D.given_bytes self.source + bytes_met s.shape s.subchunk numbers pairs n) long (c.in-Err.ensures.given honest) in
+          omega (arith, few);
+      unwritten = λ honest first. subst (λ n. D.given_bytes c.update_asked.new.source ≤ D.given_bytes self.source + bytes_met s.shape s.subchunk numbers pairs n) long (c.in-Err.ensures.given honest);
+    }

@@ -14,7 +14,7 @@ use Rattle.zarr_sharding_index.specs.Views.{location_of}
 use Rattle.zarr_sharding_state.specs.States.{end_of, pairs_in}
 use Rattle.zarr_sharding_state.specs.Views.{changes_of}
 use Rattle.zarr_codecs_traits.specs.Sources.{refused_after}
-use Rattle.zarr_sharding_codec.specs.Appending.{accepted_by}
+use Rattle.zarr_sharding_codec.specs.Appending.{accepted_by, most_tried}
 use Rattle.zarr_sharding_inner.specs.Orders.{is_row_major}
 use Rattle.zarr_sharding_codec.specs.Views.{makes_a_function}
 use Rattle.zarr_sharding_codec.proofs.DecodedShard.{even_index}
@@ -322,7 +322,7 @@ returns-in-Ok-update_asked-clause-call g c =
     }
 
 pub returns-clause-given : goal.returns-clause-given
-returns-clause-given g c = λ honest ranges.
+returns-clause-given g c = λ honest.
     let self = c.args.self.now in
     let subchunk = self.subchunk_shape in
     let inner = g.I.ArrayToBytesCodecTraits.meaning self.inner_codecs in
@@ -339,10 +339,11 @@ returns-clause-given g c = λ honest ranges.
     let laws = g.met.E.BytesPartialDecoderTraits in
     let D = g.E.BytesPartialDecoderTraits in
     let old = D.contents c.args.source.now in
-    taken_unopened subchunk inner index location elements shape asked payload size numbers old (D.given_bytes c.args.source.now) (D.given_bytes c.open.new.source) tested (c.in-Err.ensures.given honest) (c.in-Err.ensures.within honest)
+    let taken = taken_unopened subchunk inner index location elements shape asked payload size numbers old (D.given_bytes c.args.source.now) (D.given_bytes c.open.new.source) tested (c.in-Err.ensures.given honest) (c.in-Err.ensures.within honest) in
+    omega (arith, taken)
 
 pub returns-in-Ok-clause-given : goal.returns-in-Ok-clause-given
-returns-in-Ok-clause-given g c = λ honest ranges.
+returns-in-Ok-clause-given g c = λ honest.
     let self = c.args.self.now in
     let subchunk = self.subchunk_shape in
     let inner = g.I.ArrayToBytesCodecTraits.meaning self.inner_codecs in
@@ -375,11 +376,12 @@ returns-in-Ok-clause-given g c = λ honest ranges.
       opened = c.in-Ok.ensures.opened honest;
       many = c.in-Ok.ensures.many;
     } in
-    taken_read subchunk inner index location exact elements shape asked payload size numbers pairs_shape numbers old later pairs end h same (D.given_bytes c.args.source.now) (D.given_bytes c.open.new.source) (D.given_bytes c.update_asked.new.source)
-    (c.in-Ok.ensures.given honest) (c.in-Ok.ensures.within honest) (c.in-Err-update_asked.ensures.given still)
+    let taken = taken_read subchunk inner index location exact elements shape asked payload size numbers pairs_shape numbers old later pairs end h same (D.given_bytes c.args.source.now) (D.given_bytes c.open.new.source) (D.given_bytes c.update_asked.new.source)
+    (c.in-Ok.ensures.given honest) (c.in-Ok.ensures.within honest) (c.in-Err-update_asked.ensures.given still) in
+    omega (arith, taken)
 
 pub returns-in-Ok-update_asked-clause-given : goal.returns-in-Ok-update_asked-clause-given
-returns-in-Ok-update_asked-clause-given g c = λ honest ranges.
+returns-in-Ok-update_asked-clause-given g c = λ honest.
     let self = c.args.self.now in
     let subchunk = self.subchunk_shape in
     let inner = g.I.ArrayToBytesCodecTraits.meaning self.inner_codecs in
@@ -413,8 +415,11 @@ returns-in-Ok-update_asked-clause-given g c = λ honest ranges.
       many = c.in-Ok.ensures.many;
     } in
     let both = laws.goes_on _ _ _ c.in-Ok.ensures.follows c.in-Ok-update_asked.ensures.follows in
-    let writes = subst IsTrue (g.met.E.BytesPartialEncoderTraits.still_ranges _ _ (g.met.E.BytesPartialEncoderTraits.reads _ _ both)) ranges in
     let taken = taken_read subchunk inner index location exact elements shape asked payload size numbers pairs_shape numbers old later pairs end h same (D.given_bytes c.args.source.now) (D.given_bytes c.open.new.source) (D.given_bytes c.update_asked.new.source)
     (c.in-Ok.ensures.given honest) (c.in-Ok.ensures.within honest) (c.in-Ok-update_asked.ensures.given still) in
-    let kept = c.append_changes.ensures.given writes in
-    omega (arith, taken, kept)
+    let ranges = g.E.BytesPartialEncoderTraits.writes_ranges in
+    let last = c.update_asked.new.source in
+    let first = g.met.E.BytesPartialEncoderTraits.still_ranges _ _ (g.met.E.BytesPartialEncoderTraits.reads _ _ both) in
+    let patch = ap (λ (b : Bool). most_tried b (D.contents c.args.source.now) c.append_changes.result) first ∙ ap (λ (o : Option (List ℕ)). most_tried (ranges last) o c.append_changes.result) (laws.same _ _ both) in
+    let kept = c.append_changes.ensures.given (subst IsTrue (laws.honest _ _ both) honest) in
+    omega (arith, taken, patch, kept)

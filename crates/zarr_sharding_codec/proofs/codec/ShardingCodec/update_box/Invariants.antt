@@ -9,6 +9,7 @@ use Rattle.zarr_sharding_index.specs.Views.{location_of}
 use Rattle.zarr_sharding_state.specs.States.{end_of, pairs_in}
 use Rattle.zarr_sharding_state.specs.Views.{changes_of, is_below}
 use Rattle.zarr_sharding_codec.specs.PartWriting.{IsOf}
+use Rattle.zarr_sharding_codec.specs.Updating.{total_of}
 use Rattle.zarr_sharding_codec.proofs.BoxRead.{GivenBefore}
 use Rattle.zarr_sharding_codec.proofs.BoxWritten.{BoxUpdated, box_asked}
 use Rattle.zarr_sharding_codec.proofs.codec.ShardingCodec.update_box.Given as goal
@@ -24,6 +25,6 @@ invariant-loop-j g l = record {
       → BoxUpdated (box_asked (g.I.ArrayToBytesCodecTraits.meaning l.self.inner_codecs) (elements_of l.shard.elements.now) l.given.shape.now l.self.subchunk_shape (unwrap_or (g.D.BytesPartialDecoderTraits.contents l.initial.source) []) (pairs_in l.shard.known.now) (region_of l.given.region.now))
       (g.I.ArrayToBytesCodecTraits.is_function l.self.inner_codecs) cells l.met (changes_of l.changes.items) l.j;
   given : IsTrue (g.D.BytesPartialDecoderTraits.is_honest l.initial.source)
-      → GivenBefore (box_asked (g.I.ArrayToBytesCodecTraits.meaning l.self.inner_codecs) (elements_of l.shard.elements.now) l.given.shape.now l.self.subchunk_shape (unwrap_or (g.D.BytesPartialDecoderTraits.contents l.initial.source) []) (pairs_in l.shard.known.now) (region_of l.given.region.now))
+      → GivenBefore (box_asked (g.I.ArrayToBytesCodecTraits.meaning l.self.inner_codecs) (elements_of l.shard.elements.now) l.given.shape.now l.self.subchunk_shape (unwrap_or (g.D.BytesPartialDecoderTraits.contents l.initial.source) []) (pairs_in l.shard.known.now) (region_of l.given.region.now)) (total_of l.shard)
       l.met (g.D.BytesPartialDecoderTraits.given_bytes l.initial.source) (g.D.BytesPartialDecoderTraits.given_bytes l.source) l.j;
 }

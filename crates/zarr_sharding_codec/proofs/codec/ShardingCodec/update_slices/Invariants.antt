@@ -9,6 +9,7 @@ use Rattle.zarr_sharding_state.specs.States.{end_of, pairs_in}
 use Rattle.zarr_sharding_state.specs.Views.{changes_of, is_below}
 use Rattle.zarr_sharding_places.specs.declared.locating.AskedPlace.{AskedPlace}
 use Rattle.zarr_sharding_codec.specs.PartWriting.{IsOf}
+use Rattle.zarr_sharding_codec.specs.Updating.{total_of}
 use Rattle.zarr_sharding_codec.proofs.GivenSoFar.{GivenSoFar, shard_asked}
 use Rattle.zarr_sharding_codec.proofs.SoFarWritten.{IsCutAt, UpdatedSoFar}
 use Rattle.zarr_sharding_codec.proofs.codec.ShardingCodec.update_slices.Given as goal
@@ -33,7 +34,7 @@ invariant-loop-rest g l = record {
       }) (g.I.ArrayToBytesCodecTraits.is_function l.self.inner_codecs) cells l.initial.rest l.rest (changes_of l.changes.items);
   sorted : IsNonDecreasingBy (λ (place : AskedPlace). place.subchunk) l.rest;
   given : IsTrue (g.D.BytesPartialDecoderTraits.is_honest l.initial.source)
-      → GivenSoFar (shard_asked (g.I.ArrayToBytesCodecTraits.meaning l.self.inner_codecs) (elements_of l.shard.elements.now) l.given.shape.now l.self.subchunk_shape (pairs_in l.shard.known.now) l.given.numbers.now)
+      → GivenSoFar (shard_asked (g.I.ArrayToBytesCodecTraits.meaning l.self.inner_codecs) (elements_of l.shard.elements.now) l.given.shape.now l.self.subchunk_shape (pairs_in l.shard.known.now) l.given.numbers.now) (total_of l.shard)
       (g.D.BytesPartialDecoderTraits.given_bytes l.initial.source) (g.D.BytesPartialDecoderTraits.given_bytes l.source) l.rest;
 }
 

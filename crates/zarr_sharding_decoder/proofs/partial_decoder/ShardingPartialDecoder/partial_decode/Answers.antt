@@ -1,4 +1,4 @@
-use Rattle.std.proofs.Common.{◌≡◌, ◌∙◌, ◌*◌, ap, sym, refl, subst, length, Option, Some, List, ℕ, replicate}
+use Rattle.std.proofs.Common.{◌≡◌, ◌∙◌, ◌*◌, ap, sym, refl, subst, length, Option, List, ℕ}
 use Rattle.zarr_codecs_arrays.specs.Views.{elements_of}
 use Rattle.zarr_codecs_meaning.specs.Chains.{sharded}
 use Rattle.zarr_codecs_meaning.specs.Places.{grid_of, index_shape, parts_of}
@@ -6,12 +6,15 @@ use Rattle.zarr_codecs_meaning.proofs.Parts.{index_product, length-parts}
 use Rattle.zarr_codecs_traits.specs.Indexers.{asked_of, numbers_asked}
 use Rattle.zarr_codecs_traits.specs.Arrays.{coded}
 use Rattle.zarr_codecs_traits.specs.Outcomes.{DecodesPart}
+use Rattle.zarr_codecs_traits.proofs.CountedReads.{read_counted}
 use Rattle.zarr_grids_boxes.specs.Boxes.{product}
 use Rattle.zarr_sharding_index.specs.Held.{IsIndexHeld}
 use Rattle.zarr_sharding_index.specs.Present.{all_pairs}
 use Rattle.zarr_sharding_index.specs.Views.{location_of}
-use Rattle.zarr_sharding_codec.proofs.PartsRead.{part_filled, part_found, value_read, value_total}
-use Rattle.zarr_sharding_decoder.proofs.Opened.{held_count, held_nothing, held_value}
+use Rattle.zarr_sharding_codec.proofs.PartsRead.{part_found, value_read, value_total}
+use Rattle.zarr_sharding_decoder.specs.Shards.{ShardOf}
+use Rattle.zarr_sharding_decoder.specs.Views.{shard_of}
+use Rattle.zarr_sharding_decoder.proofs.Opened.{held_count, held_nothing, held_value, parts_taken}
 use Rattle.zarr_sharding_decoder.proofs.partial_decoder.ShardingPartialDecoder.partial_decode.Goals as goal
 
 pub returns-in_default-held-clause-part : goal.returns-in_default-held-clause-part
@@ -26,9 +29,13 @@ returns-in_default-held-clause-part g c = λ honest.
     let asked = asked_of c.args.indexer in
     let contents = g.D.BytesPartialDecoderTraits.contents self.source.now in
     let none = held_nothing contents self.held c.in_default-held.is (self.told honest) in
-    part_filled (sharded codec.subchunk_shape inner index location) elements shape contents (numbers_asked shape asked) asked c.in_ok-fill_elements.field-0
-    self.fit c.in_default.ensures refl none
-    (c.in_ok-fill_elements.ensures ∙ ap (λ k. Some (replicate k elements.fill)) c.in-Some-count_asked.ensures.some)
+    let chain = sharded codec.subchunk_shape inner index location in
+    subst (λ (stored : Option (List ℕ)). DecodesPart (coded chain elements shape) stored asked c.fill_asked.result) (sym none) (c.fill_asked.ensures.part chain self.fit)
+
+pub returns-in_default-held-clause-refused : goal.returns-in_default-held-clause-refused
+returns-in_default-held-clause-refused g c =
+    let count = g.D.BytesPartialDecoderTraits.refused_calls c.args.self.now.source.now in
+    read_counted count count c.fill_asked.result (sym (c.fill_asked.ensures.no_source count))
 
 pub read_asked-requires-clause-many : goal.read_asked-requires-clause-many
 read_asked-requires-clause-many g c =
@@ -56,3 +63,12 @@ returns-clause-part g c = λ honest.
     let read = value_read inner elements shape subchunk contents found.value pairs numbers c.read_asked.result found.is (c.read_asked.ensures.part honest (value_total contents pairs c.in-Some.fetched.total found.value found.is found.total)) in
     subst (λ (stored : Option (List ℕ)). DecodesPart (coded (sharded subchunk inner index location) elements shape) stored asked c.read_asked.result) (sym found.is)
     (part_found subchunk inner index location elements shape found.value pairs numbers asked c.read_asked.result self.fit c.in_default.ensures refl held read)
+
+pub returns-clause-given : goal.returns-clause-given
+returns-clause-given g c = λ honest.
+    let self = c.args.self.now in
+    let D = g.D.BytesPartialDecoderTraits in
+    let s : ShardOf = shard_of g.I.ArrayToBytesCodecTraits.meaning g.X.ArrayToBytesCodecTraits.meaning self in
+    let contents = D.contents self.source.now in
+    let held = held_value s.index s.location (index_shape s.shape s.subchunk) contents self.held c.in-Some.fetched c.in-Some.is (self.told honest) (self.opened honest) in
+    parts_taken s contents c.in-Some.fetched (asked_of c.args.indexer) (D.given_bytes self.source.now) (D.given_bytes c.read_asked.new.source) held (c.read_asked.ensures.given honest)
