@@ -16,7 +16,7 @@ use Rattle.zarr_codecs_meaning.specs.Types.{Cell, DataType, Elements, bytes_in, 
 use Rattle.zarr_codecs_meaning.proofs.Once.{product_moved}
 use Rattle.zarr_codecs_options.specs.declared.codec_options.CodecOptions.{CodecOptions}
 use Rattle.zarr_codecs_traits.specs.Arrays.{Update, coded, update_of}
-use Rattle.zarr_codecs_traits.specs.PartWriting.{AfterWrite, LacksRoom, MeetsLost, PartsRefused, PassesLength, StopsWrite, WriteRefuses, after_write, write_moved}
+use Rattle.zarr_codecs_traits.specs.PartWriting.{AfterWrite, LacksRoom, MeetsLost, PartsRefused, PassesLength, StopsWrite, WholeRefused, WriteRefuses, write_moved, write_of}
 use Rattle.zarr_codecs_traits.specs.Indexers.{Asked, numbers_asked}
 use Rattle.zarr_codecs_traits.proofs.Damage.{plain_placed, stops_part}
 use Rattle.zarr_codecs_meaning.specs.Payloads.{Payload}
@@ -78,11 +78,11 @@ no_parts_refused (sharded subchunk within index location) elements shape write i
 
 pub nothing_refuses : (chain : Chain) (elements : Elements) (shape : List ℕ) (update : Update) (after : List Cell) → IsInPart chain → WriteRefuses (coded chain elements shape) update after → ⊥
 nothing_refuses chain elements shape update after is h =
-    let parts = PartsRefused chain elements shape (after_write (numbers_asked shape update.asked) update.stored after) in
-    let whole = CodecRefuses chain elements shape after in
+    let parts = PartsRefused chain elements shape (write_of (coded chain elements shape) update after) in
+    let whole = WholeRefused chain elements shape after in
     elim (subst (λ (b : Bool). MatchBool b (parts ⊎ (LacksRoom (coded chain elements shape) update × whole)) whole) is.partly h) as (λ _. ⊥) [
-      | inl k ↦ no_parts_refused chain elements shape (after_write (numbers_asked shape update.asked) update.stored after) is k
-      | inr k ↦ no_codec_refuses chain elements shape after is k.1
+      | inl k ↦ no_parts_refused chain elements shape (write_of (coded chain elements shape) update after) is k
+      | inr k ↦ no_codec_refuses chain elements shape after is k.1.1
     ]
 
 pub none_passes : (chain : Chain) (elements : Elements) (shape : List ℕ) (cells : List Cell) → IsInPart chain → PassesIndex chain elements shape cells → ⊥
@@ -94,14 +94,14 @@ none_passes (after_array_codec codec chain) elements shape cells is h = none_pas
 none_passes (then_bytes chain codec) elements shape cells is h = absurd (false≢true is.partly)
 none_passes (sharded subchunk within index location) elements shape cells is h = absurd (false≢true is.plain)
 
-pub none_long : (chain : Chain) (elements : Elements) (shape : List ℕ) (stored : Option (List ℕ)) (cells : List Cell) → IsInPart chain → PassesLength chain elements shape stored cells → ⊥
-none_long (bytes order) elements shape stored cells is h = h
-none_long (packbits padding first last) elements shape stored cells is h = h
-none_long (vlen index «data» width location) elements shape stored cells is h = h
-none_long (optional mask values) elements shape stored cells is h = h
-none_long (after_array_codec codec chain) elements shape stored cells is h = none_long chain elements (encoded_shape codec shape) stored (gather elements.fill cells (source_places codec shape)) (inner codec chain is) h
-none_long (then_bytes chain codec) elements shape stored cells is h = h
-none_long (sharded subchunk within index location) elements shape stored cells is h = absurd (false≢true is.plain)
+pub none_long : (chain : Chain) (elements : Elements) (shape : List ℕ) (write : AfterWrite) → IsInPart chain → PassesLength chain elements shape write → ⊥
+none_long (bytes order) elements shape write is h = h
+none_long (packbits padding first last) elements shape write is h = h
+none_long (vlen index «data» width location) elements shape write is h = h
+none_long (optional mask values) elements shape write is h = h
+none_long (after_array_codec codec chain) elements shape write is h = none_long chain elements (encoded_shape codec shape) (write_moved codec elements.fill shape write) (inner codec chain is) h
+none_long (then_bytes chain codec) elements shape write is h = h
+none_long (sharded subchunk within index location) elements shape write is h = absurd (false≢true is.plain)
 
 -- what is damaged doesn't open
 abbrev Opens : Chain → Elements → List ℕ → Option (List ℕ) → Bool
@@ -128,7 +128,7 @@ keeps_bits (then_bytes chain codec) type is = absurd (false≢true is.partly)
 keeps_bits (sharded subchunk within index location) type is = absurd (false≢true is.plain)
 
 pub stopped_closed : (chain : Chain) (elements : Elements) (shape : List ℕ) (asked : Asked) (payload : Payload) (stored : Option (List ℕ)) → IsInPart chain → StopsWrite (coded chain elements shape) (update_of asked payload stored) → Opens chain elements shape stored ≡ false
-stopped_closed chain elements shape asked payload stored is (inr h) = absurd (none_long chain elements shape stored _ is h.1.is)
+stopped_closed chain elements shape asked payload stored is (inr h) = absurd (none_long chain elements shape _ is h.1.is)
 stopped_closed chain elements shape asked payload None is (inl h) = absurd h
 stopped_closed chain elements shape asked payload (Some value) is (inl h) = elim (stops_part chain elements shape value (numbers_asked shape asked) is.partly h) [
   | inl closed ↦ closed

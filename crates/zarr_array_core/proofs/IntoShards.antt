@@ -12,7 +12,7 @@ use Rattle.zarr_codecs_meaning.specs.Decoding.{opens}
 use Rattle.zarr_codecs_meaning.specs.Fits.{is_plain}
 use Rattle.zarr_codecs_meaning.specs.Partial.{encodes_in_part}
 use Rattle.zarr_codecs_meaning.specs.Payloads.{Payload}
-use Rattle.zarr_codecs_meaning.specs.Refusals.{CodecRefuses, PassesIndex}
+use Rattle.zarr_codecs_meaning.specs.Refusals.{PassesIndex}
 use Rattle.zarr_codecs_meaning.specs.Standing.{ChunkStands}
 use Rattle.zarr_codecs_meaning.specs.Types.{Cell, is_value, is_fill, IsTooLarge}
 use Rattle.zarr_codecs_meaning.proofs.Lists.{some_same}
@@ -21,7 +21,7 @@ use Rattle.zarr_codecs_arrays.specs.declared.error.CodecError.{CodecError}
 use Rattle.zarr_codecs_arrays.specs.declared.error.CodecError.TheVariants as codec_error
 use Rattle.zarr_codecs_traits.specs.Indexers.{in_box, numbers_of, put}
 use Rattle.zarr_codecs_traits.specs.Arrays.{coded, update_of}
-use Rattle.zarr_codecs_traits.specs.PartWriting.{AfterPut, ChunkTight, IsEncodedInto, IsPlaced, LacksRoom, MeetsLost, NotEncodedInto, PartsRefused, PassesLength, StopsWrite, WriteRefuses, after_write, cells_after, cells_shown, only_cell}
+use Rattle.zarr_codecs_traits.specs.PartWriting.{AfterPut, ChunkTight, IsEncodedInto, IsPlaced, LacksRoom, MeetsLost, NotEncodedInto, PartsRefused, PassesLength, StopsWrite, WholeRefused, WriteRefuses, after_write, cells_after, cells_shown, only_cell}
 use Rattle.zarr_codecs_traits.specs.ShardWrites.{Appends, AppendsParts, IsStoredGapless, LeavesParts}
 use Rattle.zarr_codecs_traits.proofs.Damage.{stops_part}
 use Rattle.zarr_array_storage.specs.declared.error.StorageError.{StorageError}
@@ -118,6 +118,10 @@ module _ (write : Write) (box : Region) (payload : Payload) (sub : List Cell) (r
       → cells_after (coded document.chain document.elements box.shape) stored ns h.cells ≡ cells_then write box stored
   then_put fact stored h = then_cells h.cells stored (some_same (sym h.valid.is.lists ∙ are.are.valid.is.lists))
 
+  -- there is no room for the new slices, by the cells after a put
+  abbrev long_then : Option (List ℕ) → List Cell → Type 0
+  long_then stored cells = PassesLength document.chain document.elements box.shape (after_write ns stored cells)
+
   -- ---- what a codec put
 
   -- what a write left of the subchunks that it didn't meet
@@ -128,7 +132,7 @@ module _ (write : Write) (box : Region) (payload : Payload) (sub : List Cell) (r
       let anew = IsStoredGapless document.chain box.shape new in
       elim (subst (λ (b : Bool). MatchBool b (AppendsParts array update new ⊎ (LacksRoom array update × anew)) anew) into.partly left.parts) as (λ _. LeavesOthers write box old new) [
         | inl h ↦ inl (subst (λ (cs : List Cell). Appends document.chain document.elements box.shape (after_write ns old cs) new) (then_put (λ after. Appends document.chain document.elements box.shape (after_write ns old after) new) old h) h.is)
-        | inr h ↦ inr (subst (PassesLength document.chain document.elements box.shape old) (then_put (PassesLength document.chain document.elements box.shape old) old h.0) h.0.is, h.1)
+        | inr h ↦ inr (subst (long_then old) (then_put (long_then old) old h.0) h.0.is, h.1)
       ]
 
   put_shard : (cells : List Cell) (old new : Option (List ℕ)) → IsIntoShard document write.region box → IsEncodedInto (coded document.chain document.elements box.shape) write.array.exact (update_of (in_box (part_of write.region box)) payload old) cells new
@@ -151,7 +155,7 @@ module _ (write : Write) (box : Region) (payload : Payload) (sub : List Cell) (r
   not_taken : (stored : Option (List ℕ)) → IsIntoShard document write.region box → StopsWrite (coded document.chain document.elements box.shape) (update_of (in_box (part_of write.region box)) payload stored) → StopsInto document write.region box stored ⊎ HasNoRoomFor write box stored
   not_taken None into (inl h) = absurd h
   not_taken (Some value) into (inl h) = inl (stops_part document.chain document.elements box.shape value ns into.partly h)
-  not_taken stored into (inr h) = inr (h.0, subst (PassesLength document.chain document.elements box.shape stored) (then_put (PassesLength document.chain document.elements box.shape stored) stored h.1) h.1.is)
+  not_taken stored into (inr h) = inr (h.0, subst (long_then stored) (then_put (long_then stored) stored h.1) h.1.is)
 
   -- what a codec refuses
   refused_into : (stored : Option (List ℕ)) → IsIntoShard document write.region box
@@ -162,12 +166,11 @@ module _ (write : Write) (box : Region) (payload : Payload) (sub : List Cell) (r
       let update = update_of (in_box (part_of write.region box)) payload stored in
       let after = cells_after array stored ns h.cells in
       let parts = λ (cs : List Cell). PartsRefused document.chain document.elements box.shape (after_write ns stored cs) in
-      let whole = λ (cs : List Cell). CodecRefuses document.chain document.elements box.shape cs in
-      let long = PassesLength document.chain document.elements box.shape stored in
+      let whole = λ (cs : List Cell). WholeRefused document.chain document.elements box.shape cs in
       let same = then_put (WriteRefuses array update) stored h in
       elim (subst (λ (b : Bool). MatchBool b (parts after ⊎ (LacksRoom array update × whole after)) (whole after)) into.partly h.is) as (λ _. RefusesInto write box stored) [
         | inl k ↦ inl (subst parts same k)
-        | inr k ↦ inr (subst long (then_put long stored k.0) k.0.is, subst whole same k.1)
+        | inr k ↦ inr (subst (long_then stored) (then_put (long_then stored) stored k.0) k.0.is, subst whole same k.1)
       ]
 
   not_into : (stored : Option (List ℕ)) (e : CodecError) (refusal : StorageError) → IsStoreRefusal refusal → IsIntoShard document write.region box → ¬ IsTooLarge document.elements.type (product box.shape)
@@ -178,7 +181,7 @@ module _ (write : Write) (box : Region) (payload : Payload) (sub : List Cell) (r
   not_into stored codec_error.Source refusal told into small h = told
   not_into stored codec_error.Size refusal told into small (inl large) = absurd (small large)
   not_into stored codec_error.Size refusal told into small (inr h) =
-      subst (λ (cs : List Cell). PassesIndex document.chain document.elements box.shape cs ⊎ PassesLength document.chain document.elements box.shape stored cs)
+      subst (λ (cs : List Cell). PassesIndex document.chain document.elements box.shape cs ⊎ long_then stored cs)
       (then_cells h.cells stored (some_same (sym h.valid.is.lists ∙ are.are.valid.is.lists))) h.is
   not_into stored codec_error.CellOutOfRange refusal told into small h =
       let same = some_same (sym h.1.1.lists ∙ are.are.valid.is.lists) in

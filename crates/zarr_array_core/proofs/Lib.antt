@@ -6,6 +6,7 @@ pub mod Selected
 pub mod Placed
 pub mod ReadSoFar
 pub mod ReadCounts
+pub mod GivenBytes
 mod WholeLost
 pub mod FetchedValues
 pub mod FoundParts
@@ -26,7 +27,6 @@ mod SeenFrom
 pub mod Overlapping
 pub mod InParts
 pub mod PutParts
-pub mod TooMany
 pub mod Turns
 pub mod Rewritten
 pub mod KeyedTurns

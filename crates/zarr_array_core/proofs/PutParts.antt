@@ -267,7 +267,7 @@ why_not_put A write box payload sub stored codec_error.Source chain are small h 
 why_not_put A write box payload sub stored codec_error.Size chain are small (inl large) = small large
 why_not_put A write box payload sub stored codec_error.Size chain are small (inr h) = elim h.is [
   | inl k ↦ none_passes write.array.document.chain write.array.document.elements box.shape _ chain k
-  | inr k ↦ none_long write.array.document.chain write.array.document.elements box.shape stored _ chain k
+  | inr k ↦ none_long write.array.document.chain write.array.document.elements box.shape _ chain k
 ]
 why_not_put A write box payload sub stored codec_error.CellOutOfRange chain are small h =
     let same = some_same (sym h.1.1.lists ∙ are.are.valid.is.lists) in

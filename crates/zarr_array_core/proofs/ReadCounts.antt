@@ -1,5 +1,5 @@
 -- The count of refused store calls after a read.
-use Rattle.std.proofs.Common.{◌≡◌, ◌⊎◌, ℕ, subst, sym, Option, Some, None, Result, Ok, Err, inl, inr}
+use Rattle.std.proofs.Common.{◌≡◌, ◌⊎◌, ℕ, refl, subst, sym, Option, Some, None, Result, Ok, Err, inl, inr}
 use Rattle.std.specs.Prelude.{IfErr}
 use Rattle.std.specs.Result.{IsErrAnd}
 use Rattle.zarr_array_meaning.specs.StoreMaps.{counted}
@@ -8,16 +8,6 @@ use Rattle.zarr_array_core.specs.Fetching.{CountsUntil, IsOfDecoding, OnlyRead}
 use Rattle.zarr_array_core.specs.Outcomes.{CountsRead, CountsStop}
 use Rattle.zarr_array_core.specs.declared.error.ChunkError.{ChunkError}
 use Rattle.zarr_array_core.specs.declared.error.ChunkError.TheVariants as error
-
--- ---- where memory alone is a cause
-
-pub if_memory : {A : Type 0} (result : Result A ChunkError) (causes : ChunkError → Type 0) → IfErr result (λ e. e ≡ error.Memory) → causes error.Memory → IfErr result causes
-if_memory (Ok value) causes h is = tt
-if_memory (Err e) causes h is = subst causes (sym h) is
-
-pub memory_counts : {A : Type 0} (result : Result A ChunkError) (before after : ℕ) → after ≡ before → IfErr result (λ e. e ≡ error.Memory) → CountsRead result before after
-memory_counts (Ok value) before after is h = is
-memory_counts (Err e) before after is h = subst (λ (k : ChunkError). CountsStop k before after) (sym h) (inl is)
 
 -- ---- an error that a call passes on
 
@@ -28,6 +18,14 @@ err_is (Err k) e causes h is = subst causes (sym h) is
 pub if_err_is : {A : Type 0} (result : Result A ChunkError) (e : ChunkError) (causes : ChunkError → Type 0) → IsErrAnd result (λ k. k ≡ e) → causes e → IfErr result causes
 if_err_is (Ok value) e causes h is = tt
 if_err_is (Err k) e causes h is = subst causes (sym h) is
+
+pub passed_counts : {A : Type 0} (result : Result A ChunkError) (e : ChunkError) (before mid after : ℕ) → IsErrAnd result (λ k. k ≡ e) → mid ≡ before → CountsStop e mid after → CountsRead result before after
+passed_counts (Ok value) e before mid after h same counts = absurd h
+passed_counts (Err k) e before mid after h same counts = subst (λ (k : ChunkError). CountsStop k before after) (sym h) (subst (λ (n : ℕ). CountsStop e n after) same counts)
+
+-- for want of memory
+pub memory_passed : {A : Type 0} (result : Result A ChunkError) (e : ChunkError) (before after : ℕ) → IsErrAnd result (λ k. k ≡ e) → e ≡ error.Memory → after ≡ before → CountsRead result before after
+memory_passed result e before after h memory same = passed_counts result e before before after h refl (subst (λ (k : ChunkError). CountsStop k before after) (sym memory) (inl same))
 
 -- ---- a store that was only read
 

@@ -14,7 +14,7 @@ use Rattle.zarr_codecs_meaning.specs.Refusals.{CodecRefuses}
 use Rattle.zarr_codecs_meaning.specs.Standing.{ChunkStands}
 use Rattle.zarr_codecs_meaning.specs.Types.{Cell, is_fill}
 use Rattle.zarr_codecs_meaning.proofs.Chunks.{stored_decoded}
-use Rattle.zarr_codecs_traits.specs.PartWriting.{ChunkTight, PartsRefused, PassesLength, after_write}
+use Rattle.zarr_codecs_traits.specs.PartWriting.{ChunkTight, PartsRefused, PassesLength, WholeRefused}
 use Rattle.zarr_array_elements.proofs.FixedCells.{cell_of_places, number_below}
 use Rattle.zarr_array_meaning.specs.Arrays.{value_at}
 use Rattle.zarr_array_meaning.specs.Boxes.{cell_of_box}
@@ -22,7 +22,7 @@ use Rattle.zarr_array_meaning.specs.Chunks.{fits_box, holds_box, number_in, part
 use Rattle.zarr_array_meaning.specs.Standing.{AreValues, ChunkStandsAt, ChunkTightAt, IsLossless}
 use Rattle.zarr_array_meaning.specs.StoreMaps.{StoreMap}
 use Rattle.zarr_array_meaning.specs.Writes.{Write}
-use Rattle.zarr_array_meaning.specs.Writing.{ChunkBecomes, IsKeyed, RefusesCells, StopsInto, Takes, WroteChunks, cell_read, given_cell, goes_into_shard, is_in_part, keeps_fill, may_be_in_part, shared_numbers, takes_cells, written_over}
+use Rattle.zarr_array_meaning.specs.Writing.{ChunkBecomes, IsKeyed, RefusesCells, StopsInto, Takes, WroteChunks, cell_read, given_cell, goes_into_shard, is_in_part, keeps_fill, may_be_in_part, part_write, takes_cells, written_over}
 use Rattle.zarr_array_meaning.proofs.TakenParts.{read_of_decoded}
 use Rattle.zarr_array_core.specs.ChunkValues.{ChangesValue, ChangeStops, with_value}
 use Rattle.zarr_array_core.specs.IntoShards.{FittingStops, IntoShardStops, PutsIntoShard, WritesChunk, WritingStops, cells_over, cells_then}
@@ -218,14 +218,14 @@ wrote_chunk write chunk box old made is h =
 
 -- what is refused, by whether a part is put into the shard
 refuses_by : (write : Write) (box : Region) (into : Bool) (held : Option (List ℕ)) (cells : List Cell) → goes_into_shard write box ≡ into
-    → MatchBool into (PartsRefused write.array.document.chain write.array.document.elements box.shape (after_write (shared_numbers write.region box) held cells)
-    ⊎ (PassesLength write.array.document.chain write.array.document.elements box.shape held cells × CodecRefuses write.array.document.chain write.array.document.elements box.shape cells))
+    → MatchBool into (PartsRefused write.array.document.chain write.array.document.elements box.shape (part_write write box held cells)
+    ⊎ (PassesLength write.array.document.chain write.array.document.elements box.shape (part_write write box held cells) × WholeRefused write.array.document.chain write.array.document.elements box.shape cells))
     (CodecRefuses write.array.document.chain write.array.document.elements box.shape cells) → RefusesCells write box held cells
 refuses_by write box into held cells is h =
     let document = write.array.document in
-    let whole = CodecRefuses document.chain document.elements box.shape cells in
-    let met = PartsRefused document.chain document.elements box.shape (after_write (shared_numbers write.region box) held cells) in
-    subst (λ (b : Bool). MatchBool b (met ⊎ (PassesLength document.chain document.elements box.shape held cells × whole)) whole) (sym is) h
+    let part = part_write write box held cells in
+    let into_shard = PartsRefused document.chain document.elements box.shape part ⊎ (PassesLength document.chain document.elements box.shape part × WholeRefused document.chain document.elements box.shape cells) in
+    subst (λ (b : Bool). MatchBool b into_shard (CodecRefuses document.chain document.elements box.shape cells)) (sym is) h
 
 module _ (write : Write) (box : Region) (held : Option (List ℕ)) where
   whole_stops : (e : ChunkError) → goes_into_shard write box ≡ false → ChangeStops write box held e → ChunkStops write box held e

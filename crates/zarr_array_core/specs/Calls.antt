@@ -1,5 +1,5 @@
 -- Calls of a store that calls over an array make, whatever their errors are.
-use Rattle.std.specs.Prelude.{◌≡◌, ℕ, Bool, if◌then◌else◌, IsTrue, OnErr, Result, Ok, Err}
+use Rattle.std.specs.Prelude.{◌≡◌, ℕ, ◌+◌, ◌≤◌, Bool, if◌then◌else◌, IsTrue, OnErr, Result, Ok, Err}
 use Rattle.zarr_array_meaning.specs.StoreMaps.{CountsUpTo}
 use Rattle.zarr_array_storage.specs.declared.traits.ReadableStorageTraits as stores
 
@@ -15,6 +15,10 @@ pub record Reads {S : Type 0} (s : stores.Ghosts S) (old new : S) (count : ℕ) 
   pub honest : s.is_honest new ≡ s.is_honest old
   pub refused : s.refused_calls new ≡ count
   pub accepted : s.accepted_writes new ≡ s.accepted_writes old
+
+-- an honest store gave at most so many bytes more
+abbrev pub GivesAtMost : {S : Type 0} → stores.Ghosts S → ℕ → S → S → Type 0
+GivesAtMost s most old new = IsTrue (s.is_honest old) → s.given_bytes new ≤ s.given_bytes old + most
 
 -- an error changes nothing of what an honest store holds
 abbrev pub KeptAtErr : {S A E : Type 0} → stores.Ghosts S → S → S → Result A E → Type 0

@@ -8,7 +8,7 @@ use Rattle.zarr_grids_chunks.specs.Grids.{IsInGrid}
 use Rattle.zarr_grids_keys.specs.Keys.{chunk_key}
 use Rattle.zarr_codecs_meaning.specs.Chains.{Chain}
 use Rattle.zarr_codecs_meaning.specs.Payloads.{Payload}
-use Rattle.zarr_codecs_meaning.specs.Refusals.{CodecRefuses, PassesIndex}
+use Rattle.zarr_codecs_meaning.specs.Refusals.{PassesIndex}
 use Rattle.zarr_codecs_meaning.specs.Standing.{ChunkStands}
 use Rattle.zarr_codecs_meaning.specs.Types.{Cell, Elements, is_fill}
 use Rattle.zarr_codecs_arrays.specs.Views.{elements_of, payload_of}
@@ -17,7 +17,7 @@ use Rattle.zarr_codecs_arrays.specs.declared.error.CodecError.{CodecError}
 use Rattle.zarr_codecs_arrays.specs.declared.error.CodecError.TheVariants as codec_error
 use Rattle.zarr_codecs_traits.specs.Indexers.{Asked, in_box}
 use Rattle.zarr_codecs_traits.specs.Arrays.{coded, update_of}
-use Rattle.zarr_codecs_traits.specs.PartWriting.{ChunkTight, IsEncodedInto, NotEncodedInto, OnCells, PartsRefused, PassesLength, WritesOnce, after_write, only_cell}
+use Rattle.zarr_codecs_traits.specs.PartWriting.{ChunkTight, IsEncodedInto, NotEncodedInto, OnCells, PartsRefused, PassesLength, WholeRefused, WritesOnce, only_cell}
 use Rattle.zarr_codecs_traits.specs.ShardWrites.{Appends, IsStoredGapless, LeavesParts}
 use Rattle.zarr_codecs_traits.specs.Sources.{refused_after}
 use Rattle.zarr_codecs_traits.specs.declared.array_to_bytes.ArrayToBytesCodecTraits as codecs
@@ -28,7 +28,7 @@ use Rattle.zarr_array_meaning.specs.Documents.{Document}
 use Rattle.zarr_array_meaning.specs.Standing.{IsLossless}
 use Rattle.zarr_array_meaning.specs.StoreMaps.{StoreMap}
 use Rattle.zarr_array_meaning.specs.Writes.{Write}
-use Rattle.zarr_array_meaning.specs.Writing.{StopsInto, given_cell, goes_into_shard, shared_numbers}
+use Rattle.zarr_array_meaning.specs.Writing.{StopsInto, given_cell, goes_into_shard, part_write}
 use Rattle.zarr_array_storage.specs.declared.traits.ReadableStorageTraits as stores
 use Rattle.zarr_array_storage.specs.declared.error.StorageError.{StorageError}
 use Rattle.zarr_array_core.specs.ChunkValues.{ChangesValue, ChangeStops, PutsCells, with_value}
@@ -60,9 +60,8 @@ cells_then write box stored =
 abbrev pub LeavesOthers : Write → Region → Option (List ℕ) → Option (List ℕ) → Type 0
 LeavesOthers write box stored made =
     let document = write.array.document in
-    let cells = cells_then write box stored in
-    Appends document.chain document.elements box.shape (after_write (shared_numbers write.region box) stored cells) made
-    ⊎ (PassesLength document.chain document.elements box.shape stored cells × IsStoredGapless document.chain box.shape made)
+    let part = part_write write box stored (cells_then write box stored) in
+    Appends document.chain document.elements box.shape part made ⊎ (PassesLength document.chain document.elements box.shape part × IsStoredGapless document.chain box.shape made)
 
 -- the cells of a write were put into a chunk's shard, which doesn't stop them: each place is read so, what stood for cells stands for them with the new ones, and a shard that is all fill then is taken away
 pub record PutsIntoShard (write : Write) (box : Region) (stored made : Option (List ℕ)) : Type 0 where
@@ -77,17 +76,18 @@ pub record PutsIntoShard (write : Write) (box : Region) (stored made : Option (L
   pub absent : IsLossless write.array.document → OnCells write.array.document.elements box.shape (λ before. ChunkStands write.array.document.chain write.array.document.elements box.shape stored before
       → is_fill write.array.document.elements.fill (cells_over write box before) ≡ true → made ≡ None)
 
--- what is stored for a chunk isn't decoded, and behind it there is no room for the new slices: put there, they would make 2^63 bytes or more
+-- what is stored for a chunk isn't decoded, and behind it there is no room for the new slices of the subchunks that a box meets: put there, they would make 2^63 bytes or more
 abbrev pub HasNoRoomFor : Write → Region → Option (List ℕ) → Type 0
-HasNoRoomFor write box stored = (decoded_in write.array.document box stored ≡ None) × PassesLength write.array.document.chain write.array.document.elements box.shape stored (cells_then write box stored)
+HasNoRoomFor write box stored =
+    (decoded_in write.array.document box stored ≡ None) × PassesLength write.array.document.chain write.array.document.elements box.shape (part_write write box stored (cells_then write box stored))
 
 -- a caller's codec refuses what the subchunks that a box meets call for, or, where there is no room for their new slices, what the whole chunk does
 abbrev pub RefusesInto : Write → Region → Option (List ℕ) → Type 0
 RefusesInto write box stored =
     let document = write.array.document in
     let cells = cells_then write box stored in
-    PartsRefused document.chain document.elements box.shape (after_write (shared_numbers write.region box) stored cells)
-    ⊎ (PassesLength document.chain document.elements box.shape stored cells × CodecRefuses document.chain document.elements box.shape cells)
+    let part = part_write write box stored cells in
+    PartsRefused document.chain document.elements box.shape part ⊎ (PassesLength document.chain document.elements box.shape part × WholeRefused document.chain document.elements box.shape cells)
 
 -- why the cells of a write are not put into a chunk's shard
 abbrev pub IntoShardStops : Write → Region → Option (List ℕ) → ChunkError → Type 0
@@ -96,7 +96,8 @@ IntoShardStops write box stored (error.Storage e) = IsStoreRefusal e
 IntoShardStops write box stored error.Damage = StopsInto write.array.document write.region box stored ⊎ HasNoRoomFor write box stored
 IntoShardStops write box stored error.Codec = RefusesInto write box stored
 IntoShardStops write box stored error.Size =
-    PassesIndex write.array.document.chain write.array.document.elements box.shape (cells_then write box stored) ⊎ PassesLength write.array.document.chain write.array.document.elements box.shape stored (cells_then write box stored)
+    let cells = cells_then write box stored in
+    PassesIndex write.array.document.chain write.array.document.elements box.shape cells ⊎ PassesLength write.array.document.chain write.array.document.elements box.shape (part_write write box stored cells)
 IntoShardStops write box stored error.Memory = Unit {0}
 
 -- ---- what a write does

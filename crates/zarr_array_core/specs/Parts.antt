@@ -1,26 +1,31 @@
 -- What reading one chunk of a box does.
-use Rattle.std.specs.Prelude.{◌≡◌, ◌⊎◌, ℕ, List, Option, Some, None, true, false, is_some, Result, Ok, Err}
-use Rattle.zarr_grids_boxes.specs.Boxes.{Region, is_in_box}
+use Rattle.std.specs.Prelude.{◌≡◌, ◌⊎◌, ℕ, List, replicate, Option, Some, None, true, false, is_some, Result, Ok, Err}
+use Rattle.std.specs.FinMap.{get}
+use Rattle.zarr_grids_boxes.specs.Boxes.{Region, product, is_in_box}
 use Rattle.zarr_grids_boxes.specs.Cuts.{overlapped, relative}
 use Rattle.zarr_grids_boxes.specs.Subsets.{region_of}
 use Rattle.zarr_grids_chunks.specs.Grids.{IsInGrid}
 use Rattle.zarr_codecs_meaning.specs.Chunks.{chunk_part}
 use Rattle.zarr_codecs_meaning.specs.Fits.{fits}
 use Rattle.zarr_codecs_meaning.specs.Payloads.{Payload}
-use Rattle.zarr_codecs_meaning.specs.Types.{Cell, DataType}
+use Rattle.zarr_codecs_meaning.specs.Types.{Cell, DataType, Elements}
 use Rattle.zarr_codecs_arrays.specs.Views.{payload_of}
 use Rattle.zarr_codecs_arrays.specs.declared.array_bytes.ArrayBytes.{ArrayBytes}
 use Rattle.zarr_codecs_traits.specs.Indexers.{in_box, numbers_of}
 use Rattle.zarr_codecs_traits.specs.Arrays.{coded}
 use Rattle.zarr_codecs_traits.specs.Outcomes.{IsPart}
 use Rattle.zarr_array_elements.specs.Boxes.{AreOfBox}
+use Rattle.zarr_array_elements.specs.Views.{cells_shown}
+use Rattle.zarr_array_elements.specs.declared.box_elements.BoxElements.{BoxElements}
 use Rattle.zarr_array_meaning.specs.Arrays.{Array, value_at}
 use Rattle.zarr_array_meaning.specs.Boxes.{cell_of_box}
 use Rattle.zarr_array_meaning.specs.Chunks.{ReadsCell, fits_box, part_at}
 use Rattle.zarr_array_meaning.specs.Documents.{Document}
+use Rattle.zarr_array_meaning.specs.ReadBytes.{most_of_shared}
 use Rattle.zarr_array_meaning.specs.StoreMaps.{StoreMap}
 use Rattle.zarr_array_core.specs.Outcomes.{IsStoreRefusal}
 use Rattle.zarr_array_core.specs.declared.chunk_reading.ChunkPart.{ChunkPart}
+use Rattle.zarr_array_core.specs.declared.chunk_reading.StoredChunk.{StoredChunk}
 use Rattle.zarr_array_core.specs.declared.error.ChunkError.{ChunkError}
 use Rattle.zarr_array_core.specs.declared.error.ChunkError.TheVariants as error
 
@@ -52,6 +57,10 @@ abbrev pub FindsAt : Array → StoreMap → List ℕ → Option ChunkPart → Ty
 FindsAt array store chunk None = value_at array store chunk ≡ None
 FindsAt array store chunk (Some part) = (box : Region) → IsInGrid array.document.grid chunk box → IsChunkPart array.document box (value_at array store chunk) (region_of part.shared) (payload_of part.bytes)
 
+-- the elements that are shown for a box are all the fill value
+abbrev pub AreFill : Elements → Region → BoxElements → Type 0
+AreFill elements region shown = cells_shown elements shown ≡ replicate (product region.shape) elements.fill
+
 -- ---- a chunk that a box meets
 
 -- a chunk of an array that a box meets, and what is stored for it
@@ -64,6 +73,14 @@ pub record MetChunk : Type 0 where
 -- a chunk that a region meets, its box, and what a store holds for it
 abbrev pub met_in : Array → StoreMap → Region → List ℕ → Region → MetChunk
 met_in array store region chunk box = record { document = array.document; region = region; box = box; stored = value_at array store chunk }
+
+-- the same, of a chunk whose key and box are given
+abbrev pub met_by : Document → StoreMap → Region → StoredChunk → MetChunk
+met_by document store region chunk = record { document = document; region = region; box = region_of chunk.own.now; stored = get store chunk.key.now }
+
+-- how many bytes the codecs take at most of what is stored for such a chunk, for the places that it shares with the box
+abbrev pub most_of_met : MetChunk → ℕ
+most_of_met met = most_of_shared met.document met.region met.box met.stored
 
 -- the cells of what is stored for a chunk were put over those of a box: each place of both shows the chunk's cell, and the other places of the box show what they did
 pub record IsPlaced (met : MetChunk) (old new : List Cell) : Type 0 where

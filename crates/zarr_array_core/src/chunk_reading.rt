@@ -31,6 +31,22 @@ pub(crate) struct ChunkPart {
     pub bytes: ArrayBytes,
 }
 
+/// A chunk in a store: the key of its value, and its box.
+#[derive(Clone, Copy)]
+pub(crate) struct StoredChunk<'a> {
+    pub key: &'a StoreKey,
+    pub own: &'a ArraySubset,
+}
+
+/// A part of a chunk in a store: the key of its value, its shape, and the box of the places that
+/// are asked for, as the chunk numbers them.
+#[derive(Clone, Copy)]
+pub(crate) struct StoredPart<'a> {
+    pub key: &'a StoreKey,
+    pub shape: &'a [u64],
+    pub part: &'a ArraySubset,
+}
+
 /// Whether these are so many elements.
 fn are_so_many(bytes: &ArrayBytes, elements: &Elements, count: u64) -> bool
     ensures yes { result ≡ true → IsCounted (elements_of elements.now).type (payload_of bytes.now)
@@ -65,77 +81,49 @@ impl<C: ArrayToBytesCodecTraits + Sync> ArrayCore<C> {
     ghost use Rattle.zarr_grids_chunks.specs.Grids.{IsInGrid, intersects};
     ghost use Rattle.zarr_codecs_meaning.specs.Types.{IsTooLarge};
     ghost use Rattle.zarr_codecs_traits.specs.Indexers.{shape_has};
-    ghost use Rattle.zarr_array_elements.specs.Views.{AreShown, cells_shown};
+    ghost use Rattle.zarr_array_meaning.specs.ReadBytes.{box_read, most_at, most_of_part};
     ghost use Rattle.zarr_array_core.specs.Arrays.{array_of};
+    ghost use Rattle.zarr_array_core.specs.Calls.{GivesAtMost};
     ghost use Rattle.zarr_array_core.specs.Fetching.{AreOfChunk, OnlyRead};
-    ghost use Rattle.zarr_array_core.specs.Views.{document_of};
+    ghost use Rattle.zarr_array_core.specs.Views.{document_of, path_of};
     ghost use Rattle.zarr_array_core.specs.Outcomes.{CountsRead, IsSmall};
-    ghost use Rattle.zarr_array_core.specs.Parts.{AreShared, DecodesElements, FindsAt, FindsPart, GivesChunk, PartNotRead, ValueStops, met_in};
-
-    /// The elements of a box after those of a chunk that lie in it were put over them, where
-    /// nothing is stored for the chunk fill values. They stay where nothing is stored for it and it
-    /// does not fit its codecs.
-    pub(crate) fn read_chunk<R: Threads + Sync, S: ReadableStorageTraits>(
-        &self,
-        rt: &R,
-        rooms: &mut ChunkRooms,
-        store: &mut S,
-        chunk: &[u64],
-        read: ReadBox,
-        shown: BoxElements,
-    ) -> Result<BoxElements, ChunkError>
-        requires below { (box : Region)
-            × IsInGrid (document_of C.meaning self.now).grid chunk.now box }
-        requires shares { intersects (document_of C.meaning self.now).grid
-            (region_of read.region.now) chunk.now ≡ true }
-        requires small { IsSmall (document_of C.meaning self.now) (region_of read.region.now) }
-        requires shown { AreShown (document_of C.meaning self.now).elements
-            (region_of read.region.now) shown }
-        ensures shown { IfOk result (AreShown (document_of C.meaning self.now).elements
-            (region_of read.entry.region.now)) }
-        ensures ok { IsTrue (S.is_honest store.old) → IfOk result (λ made. (box : Region)
-            → IsInGrid (document_of C.meaning self.now).grid chunk.now box
-            → GivesChunk (met_in (array_of C.ArrayToBytesCodecTraits self.now)
-            (S.held store.old) (region_of read.entry.region.now) chunk.now box)
-            (cells_shown (document_of C.meaning self.now).elements shown)
-            (cells_shown (document_of C.meaning self.now).elements made)) }
-        ensures err { IsTrue (S.is_honest store.old) → IfErr result (PartNotRead
-            (array_of C.ArrayToBytesCodecTraits self.now) (S.held store.old)
-            (region_of read.entry.region.now) chunk.now) }
-        ensures store { OnlyRead S.ReadableStorageTraits store.old store.new (CountsRead result) }
-    {
-        let found = self.chunk_part(rt, rooms, store, chunk, read)?;
-        self.put_chunk_part(rooms, read, shown, found)
-    }
+    ghost use Rattle.zarr_array_core.specs.Parts.{AreShared, DecodesElements, FindsAt, FindsPart, PartNotRead, ValueStops, met_by, most_of_met};
 
     /// The elements of a chunk that lie in a box. `None` where nothing is stored for the chunk and
     /// it does not fit its codecs.
     pub(crate) fn chunk_part<R: Threads + Sync, S: ReadableStorageTraits>(
         &self,
-        rt: &R,
         rooms: &mut ChunkRooms,
         store: &mut S,
         chunk: &[u64],
-        read: ReadBox,
+        read: &ReadBox<R>,
     ) -> Result<Option<ChunkPart>, ChunkError>
         requires below { (box : Region)
             × IsInGrid (document_of C.meaning self.now).grid chunk.now box }
         requires shares { intersects (document_of C.meaning self.now).grid
-            (region_of read.region.now) chunk.now ≡ true }
-        requires small { IsSmall (document_of C.meaning self.now) (region_of read.region.now) }
+            (region_of read.now.region.now) chunk.now ≡ true }
+        requires small { IsSmall (document_of C.meaning self.now) (region_of read.now.region.now) }
         ensures shared { IfOk result (AreOfChunk (document_of C.meaning self.now)
-            (region_of read.entry.region.now) chunk.now) }
+            (region_of read.now.region.now) chunk.now) }
         ensures found { IsTrue (S.is_honest store.old) → IfOk result (FindsAt
             (array_of C.ArrayToBytesCodecTraits self.now) (S.held store.old) chunk.now) }
         ensures err { IsTrue (S.is_honest store.old) → IfErr result (PartNotRead
             (array_of C.ArrayToBytesCodecTraits self.now) (S.held store.old)
-            (region_of read.entry.region.now) chunk.now) }
+            (region_of read.now.region.now) chunk.now) }
         ensures store { OnlyRead S.ReadableStorageTraits store.old store.new (CountsRead result) }
+        ensures given { GivesAtMost S.ReadableStorageTraits (most_at (box_read
+            (path_of self.now) (document_of C.meaning self.now) (S.held store.old)
+            (region_of read.now.region.now) read.now.options.now.workers) chunk.now)
+            store.old store.new }
     {
         let key = self.key_of(read.alloc, chunk)?;
         let own = self.box_of(rooms.take_own(), chunk)?;
         let shared = overlap_in(rooms.take_shared(), read.region, &own)?;
-        match self.part_of(rt, store, &key, &own, shared, read) {
+        let stored = StoredChunk {
+            key: &key,
+            own: &own,
+        };
+        match self.part_of(store, stored, shared, read) {
             Ok(Some(part)) => {
                 rooms.keep_own(own);
                 Ok(Some(part))
@@ -153,35 +141,39 @@ impl<C: ArrayToBytesCodecTraits + Sync> ArrayCore<C> {
     /// elements isn't honest, and what it holds is taken as damaged.
     fn part_of<R: Threads + Sync, S: ReadableStorageTraits>(
         &self,
-        rt: &R,
         store: &mut S,
-        key: &StoreKey,
-        own: &ArraySubset,
+        chunk: StoredChunk<'_>,
         shared: ArraySubset,
-        read: ReadBox,
+        read: &ReadBox<R>,
     ) -> Result<Option<ChunkPart>, ChunkError>
         requires shared { region_of shared
-            ≡ overlapped (region_of read.region.now) (region_of own.now) }
-        requires shares { share_place own.now.start.items own.now.shape.items
-            read.region.now.start.items read.region.now.shape.items ≡ true }
+            ≡ overlapped (region_of read.now.region.now) (region_of chunk.own.now) }
+        requires shares { share_place chunk.own.now.start.items chunk.own.now.shape.items
+            read.now.region.now.start.items read.now.region.now.shape.items ≡ true }
         requires small { ¬ IsTooLarge (document_of C.meaning self.now).elements.type
-            (product own.now.shape.items) }
+            (product chunk.own.now.shape.items) }
         ensures shared { IfOk result (λ found. IfSome found (AreShared
             (document_of C.meaning self.now).elements.type
-            (region_of read.entry.region.now) (region_of own.now))) }
+            (region_of read.now.region.now) (region_of chunk.entry.own.now))) }
         ensures found { IsTrue (S.is_honest store.old) → IfOk result (FindsPart
-            (document_of C.meaning self.now) (region_of own.now)
-            (map.get (S.held store.old) key.now)) }
-        ensures err { IsTrue (S.is_honest store.old) → IfErr result (ValueStops (record {
-          document = document_of C.meaning self.now;
-          region = region_of read.entry.region.now;
-          box = region_of own.now;
-          stored = map.get (S.held store.old) key.now;
-        })) }
+            (document_of C.meaning self.now) (region_of chunk.entry.own.now)
+            (map.get (S.held store.old) chunk.entry.key.now)) }
+        ensures err { IsTrue (S.is_honest store.old) → IfErr result (ValueStops (met_by
+            (document_of C.meaning self.now) (S.held store.old)
+            (region_of read.now.region.now) chunk.entry)) }
         ensures store { OnlyRead S.ReadableStorageTraits store.old store.new (CountsRead result) }
+        ensures given { GivesAtMost S.ReadableStorageTraits (most_of_met (met_by
+            (document_of C.meaning self.now) (S.held store.old)
+            (region_of read.now.region.now) chunk.entry)) store.old store.new }
     {
-        let part = seen_from(shared, own.start());
-        let bytes = match self.decode_part(rt, store, key, own.shape(), &part, read) {
+        let shape = chunk.own.shape();
+        let part = seen_from(shared, chunk.own.start());
+        let asked = StoredPart {
+            key: chunk.key,
+            shape,
+            part: &part,
+        };
+        let bytes = match self.decode_part(store, asked, read) {
             Ok(Some(bytes)) => bytes,
             Ok(None) => return Ok(None),
             Err(error) => return Err(error),
@@ -190,34 +182,36 @@ impl<C: ArrayToBytesCodecTraits + Sync> ArrayCore<C> {
         if !are_so_many(&bytes, &self.elements, count) {
             return Err(ChunkError::Damage);
         }
-        let shared = overlap_in(part, read.region, own)?;
+        let shared = overlap_in(part, read.region, chunk.own)?;
         Ok(Some(ChunkPart { shared, bytes }))
     }
 
-    /// The elements at the places of a box of a chunk, of what a store holds at a key. Where the
+    /// The elements at the places of a part of a chunk, of what a store holds at its key. Where the
     /// codecs can, they fetch no more of it than they need. `None` where the chunk does not fit
     /// them.
     fn decode_part<R: Threads + Sync, S: ReadableStorageTraits>(
         &self,
-        rt: &R,
         store: &mut S,
-        key: &StoreKey,
-        shape: &[u64],
-        part: &ArraySubset,
-        read: ReadBox,
+        asked: StoredPart<'_>,
+        read: &ReadBox<R>,
     ) -> Result<Option<ArrayBytes>, ChunkError>
-        requires inside { shape_has shape.now (region_of part.now) ≡ true }
+        requires inside { shape_has asked.shape.now (region_of asked.part.now) ≡ true }
         requires small { ¬ IsTooLarge (document_of C.meaning self.now).elements.type
-            (product shape.now) }
+            (product asked.shape.now) }
         ensures part { IsTrue (S.is_honest store.old) → DecodesElements
-            (document_of C.meaning self.now) shape.now (map.get (S.held store.old) key.now)
-            (region_of part.now) result }
+            (document_of C.meaning self.now) asked.entry.shape.now
+            (map.get (S.held store.old) asked.entry.key.now) (region_of asked.entry.part.now)
+            result }
         ensures store { OnlyRead S.ReadableStorageTraits store.old store.new (CountsRead result) }
+        ensures given { GivesAtMost S.ReadableStorageTraits (most_of_part
+            (document_of C.meaning self.now) asked.entry.shape.now
+            (map.get (S.held store.old) asked.entry.key.now) (region_of asked.entry.part.now))
+            store.old store.new }
     {
         if read.options.workers() {
-            return self.decode_part_by_workers(rt, store, key, shape, part, read);
+            return self.decode_part_by_workers(store, asked, read);
         }
-        self.decode_part_in_order(read.alloc, store, key, shape, part)
+        self.decode_part_in_order(read.alloc, store, asked)
     }
 
     /// What `decode_part` answers, with no thread started.
@@ -225,18 +219,22 @@ impl<C: ArrayToBytesCodecTraits + Sync> ArrayCore<C> {
         &self,
         alloc: Global,
         store: &mut S,
-        key: &StoreKey,
-        shape: &[u64],
-        part: &ArraySubset,
+        asked: StoredPart<'_>,
     ) -> Result<Option<ArrayBytes>, ChunkError>
-        requires inside { shape_has shape.now (region_of part.now) ≡ true }
+        requires inside { shape_has asked.shape.now (region_of asked.part.now) ≡ true }
         requires small { ¬ IsTooLarge (document_of C.meaning self.now).elements.type
-            (product shape.now) }
+            (product asked.shape.now) }
         ensures part { IsTrue (S.is_honest store.old) → DecodesElements
-            (document_of C.meaning self.now) shape.now (map.get (S.held store.old) key.now)
-            (region_of part.now) result }
+            (document_of C.meaning self.now) asked.entry.shape.now
+            (map.get (S.held store.old) asked.entry.key.now) (region_of asked.entry.part.now)
+            result }
         ensures store { OnlyRead S.ReadableStorageTraits store.old store.new (CountsRead result) }
+        ensures given { GivesAtMost S.ReadableStorageTraits (most_of_part
+            (document_of C.meaning self.now) asked.entry.shape.now
+            (map.get (S.held store.old) asked.entry.key.now) (region_of asked.entry.part.now))
+            store.old store.new }
     {
+        let StoredPart { key, shape, part } = asked;
         let (elements, indexer) = (self.elements(), Indexer::Subset(part));
         let asked = ArrayPart {
             elements,
@@ -265,21 +263,24 @@ impl<C: ArrayToBytesCodecTraits + Sync> ArrayCore<C> {
     /// chunk fits is asked first, so that the store has refused no call where it does not.
     fn decode_part_by_workers<R: Threads + Sync, S: ReadableStorageTraits>(
         &self,
-        rt: &R,
         store: &mut S,
-        key: &StoreKey,
-        shape: &[u64],
-        part: &ArraySubset,
-        read: ReadBox,
+        asked: StoredPart<'_>,
+        read: &ReadBox<R>,
     ) -> Result<Option<ArrayBytes>, ChunkError>
-        requires inside { shape_has shape.now (region_of part.now) ≡ true }
+        requires inside { shape_has asked.shape.now (region_of asked.part.now) ≡ true }
         requires small { ¬ IsTooLarge (document_of C.meaning self.now).elements.type
-            (product shape.now) }
+            (product asked.shape.now) }
         ensures part { IsTrue (S.is_honest store.old) → DecodesElements
-            (document_of C.meaning self.now) shape.now (map.get (S.held store.old) key.now)
-            (region_of part.now) result }
+            (document_of C.meaning self.now) asked.entry.shape.now
+            (map.get (S.held store.old) asked.entry.key.now) (region_of asked.entry.part.now)
+            result }
         ensures store { OnlyRead S.ReadableStorageTraits store.old store.new (CountsRead result) }
+        ensures given { GivesAtMost S.ReadableStorageTraits (most_of_part
+            (document_of C.meaning self.now) asked.entry.shape.now
+            (map.get (S.held store.old) asked.entry.key.now) (region_of asked.entry.part.now))
+            store.old store.new }
     {
+        let StoredPart { key, shape, part } = asked;
         let data_type = self.elements.data_type();
         if !self.codecs.fits(read.alloc, data_type, shape)? {
             return Ok(None);
@@ -299,7 +300,7 @@ impl<C: ArrayToBytesCodecTraits + Sync> ArrayCore<C> {
         };
         match self
             .codecs
-            .partial_decode(rt, read.alloc, &mut source, asked, read.options)
+            .partial_decode(read.rt, read.alloc, &mut source, asked, read.options)
         {
             Ok(bytes) => Ok(Some(bytes)),
             Err(error) => Err(of_part(error, refused)),
@@ -324,19 +325,19 @@ impl<C: ArrayToBytesCodecTraits> ArrayCore<C> {
     pub(crate) fn put_chunk_part(
         &self,
         rooms: &mut ChunkRooms,
-        read: ReadBox,
+        region: &ArraySubset,
         shown: BoxElements,
         found: Option<ChunkPart>,
     ) -> Result<BoxElements, ChunkError>
         requires met { (chunk : List ℕ) × (intersects (document_of C.meaning self.now).grid
-            (region_of read.region.now) chunk ≡ true) × AreOfChunk (document_of C.meaning self.now)
-            (region_of read.region.now) chunk found }
+            (region_of region.now) chunk ≡ true) × AreOfChunk (document_of C.meaning self.now)
+            (region_of region.now) chunk found }
         requires shown { AreShown (document_of C.meaning self.now).elements
-            (region_of read.region.now) shown }
+            (region_of region.now) shown }
         ensures shown { IfOk result (AreShown (document_of C.meaning self.now).elements
-            (region_of read.entry.region.now)) }
+            (region_of region.now)) }
         ensures ok { IfOk result (λ made. PutsFound (array_of C.ArrayToBytesCodecTraits self.now)
-            (region_of read.entry.region.now) found
+            (region_of region.now) found
             (cells_shown (document_of C.meaning self.now).elements shown)
             (cells_shown (document_of C.meaning self.now).elements made)) }
         ensures err { IfErr result (λ e. e ≡ Memory) }
@@ -345,7 +346,7 @@ impl<C: ArrayToBytesCodecTraits> ArrayCore<C> {
             return Ok(shown);
         };
         let ChunkPart { shared, bytes } = part;
-        let made = shown.put(read.alloc, read.region, bytes, &shared, &self.elements)?;
+        let made = shown.put(rooms.alloc(), region, bytes, &shared, &self.elements)?;
         rooms.keep_shared(shared);
         Ok(made)
     }

@@ -1,5 +1,5 @@
 //! The chunks that a box meets, fetched one after another, and decoded by several threads.
-ghost use Rattle.std.specs.Prelude.{◌≡◌, length};
+ghost use Rattle.std.specs.Prelude.{◌≡◌, ◌&&◌, length};
 ghost use Rattle.zarr_grids_boxes.specs.Subsets.{region_of};
 ghost use Rattle.zarr_array_meaning.specs.Chunks.{holds_box};
 ghost use Rattle.zarr_array_core.specs.Fetching.{stop_of};
@@ -22,8 +22,8 @@ use zarr_grids_boxes::ArraySubset;
 use zarr_grids_boxes::walk::{count_places, place_into};
 use zarr_grids_overlay::Extent;
 
-/// What was fetched of a chunk: its value and its box, where a region holds all of it and it has a
-/// value, else the elements that were read of it, if any.
+/// What was fetched of a chunk: its value and its box, where workers decode it, a region holds all
+/// of it and it has a value; else the elements that were read of it, if any.
 #[derive(Drop)]
 pub(crate) enum FetchedChunk {
     Value { value: Vec<u8>, own: ArraySubset },
@@ -39,12 +39,17 @@ pub(crate) struct FetchedChunks {
     pub stopped: Option<ChunkError>,
 }
 
-/// Whether a box holds the whole of the box of a chunk.
-fn is_whole(region: &ArraySubset, own: &ArraySubset) -> bool
-    requires { length region.now.start.items ≡ length own.now.start.items }
-    ensures { result ≡ holds_box (region_of region.now) (region_of own.now) }
+/// Whether the value of a chunk with this box is fetched as a whole: workers decode it, and the box
+/// that is read holds all of the chunk's.
+fn is_whole<R>(read: &ReadBox<R>, own: &ArraySubset) -> bool
+    requires { length read.now.region.now.start.items ≡ length own.now.start.items }
+    ensures { result ≡ (read.now.options.now.workers
+        && holds_box (region_of read.now.region.now) (region_of own.now)) }
 {
-    let (start, shape) = (region.start(), region.shape());
+    if !read.options.workers() {
+        return false;
+    }
+    let (start, shape) = (read.region.start(), read.region.shape());
     let other = Extent {
         start: own.start(),
         shape: own.shape(),
@@ -90,31 +95,36 @@ impl<C: ArrayToBytesCodecTraits + Sync> ArrayCore<C> {
     ghost use Rattle.zarr_grids_boxes.specs.Subsets.{region_of};
     ghost use Rattle.zarr_grids_chunks.specs.Grids.{IsInGrid, intersects};
     ghost use Rattle.zarr_grids_cover.specs.Intersecting.{AreIntersecting};
+    ghost use Rattle.zarr_array_meaning.specs.ReadBytes.{box_read, most_at, most_of_box};
     ghost use Rattle.zarr_array_core.specs.Arrays.{array_of};
+    ghost use Rattle.zarr_array_core.specs.Calls.{GivesAtMost};
     ghost use Rattle.zarr_array_core.specs.Fetching.{AreFetched, CountsFetched, DecodesFetched, IsFetched, OnlyRead, read_of};
     ghost use Rattle.zarr_array_core.specs.Outcomes.{CountsRead, IsSmall};
     ghost use Rattle.zarr_array_core.specs.Parts.{PartNotRead};
-    ghost use Rattle.zarr_array_core.specs.Views.{document_of};
+    ghost use Rattle.zarr_array_core.specs.Views.{document_of, path_of};
     ghost use Rattle.zarr_array_core.specs.declared.error.ChunkError.TheVariants.{Memory};
 
-    /// What the chunks hold that a box intersects, row-major, up to the first that is not read. The
-    /// values of those that lie in the box are not decoded. Want of memory alone is an error.
+    /// What the chunks hold that a box intersects, row-major, up to the first that is not read.
+    /// With workers, the values of those that lie in the box are not decoded. Want of memory alone
+    /// is an error.
     pub(crate) fn fetch_chunks<R: Threads + Sync, S: ReadableStorageTraits>(
         &self,
-        rt: &R,
         rooms: &mut ChunkRooms,
         store: &mut S,
-        read: ReadBox,
+        read: &ReadBox<R>,
     ) -> Result<FetchedChunks, ChunkError>
-        requires small { IsSmall (document_of C.meaning self.now) (region_of read.region.now) }
+        requires small { IsSmall (document_of C.meaning self.now) (region_of read.now.region.now) }
         requires intersecting { AreIntersecting (document_of C.meaning self.now).grid
-            (region_of read.region.now) (region_of read.chunks.now) }
+            (region_of read.now.region.now) (region_of read.now.chunks.now) }
         ensures fetched { IfOk result (AreFetched
             (read_of C.ArrayToBytesCodecTraits S.ReadableStorageTraits self.now store.old
-            (region_of read.entry.region.now)) (region_of read.entry.chunks.now)) }
+            (region_of read.now.region.now)) (region_of read.now.chunks.now)) }
         ensures err { IfErr result (λ e. e ≡ Memory) }
         ensures store { OnlyRead S.ReadableStorageTraits store.old store.new
             (CountsFetched result) }
+        ensures given { GivesAtMost S.ReadableStorageTraits (most_of_box (box_read
+            (path_of self.now) (document_of C.meaning self.now) (S.held store.old)
+            (region_of read.now.region.now) read.now.options.now.workers)) store.old store.new }
     {
         let first = read.chunks.start();
         let shape = read.chunks.shape();
@@ -126,7 +136,7 @@ impl<C: ArrayToBytesCodecTraits + Sync> ArrayCore<C> {
         let mut bytes = 0;
         for n in 0..count {
             place_into(first, shape, count, n, chunk);
-            match self.fetch_chunk(rt, rooms, store, chunk, read) {
+            match self.fetch_chunk(rooms, store, chunk, read) {
                 Ok(fetched) => {
                     bytes = with_value(bytes, &fetched);
                     chunks.push(fetched)?;
@@ -151,33 +161,36 @@ impl<C: ArrayToBytesCodecTraits + Sync> ArrayCore<C> {
         })
     }
 
-    /// The value of a chunk that lies in a box, not decoded, or the elements of the chunk that lie
-    /// in the box.
+    /// The value of a chunk that lies in a box, not decoded, where there are workers; else the
+    /// elements of the chunk that lie in the box.
     fn fetch_chunk<R: Threads + Sync, S: ReadableStorageTraits>(
         &self,
-        rt: &R,
         rooms: &mut ChunkRooms,
         store: &mut S,
         chunk: &[u64],
-        read: ReadBox,
+        read: &ReadBox<R>,
     ) -> Result<FetchedChunk, ChunkError>
         requires below { (box : Region)
             × IsInGrid (document_of C.meaning self.now).grid chunk.now box }
         requires shares { intersects (document_of C.meaning self.now).grid
-            (region_of read.region.now) chunk.now ≡ true }
-        requires small { IsSmall (document_of C.meaning self.now) (region_of read.region.now) }
+            (region_of read.now.region.now) chunk.now ≡ true }
+        requires small { IsSmall (document_of C.meaning self.now) (region_of read.now.region.now) }
         ensures fetched { IfOk result (IsFetched
             (read_of C.ArrayToBytesCodecTraits S.ReadableStorageTraits self.now store.old
-            (region_of read.entry.region.now)) chunk.now) }
+            (region_of read.now.region.now)) chunk.now) }
         ensures err { IsTrue (S.is_honest store.old) → IfErr result (PartNotRead
             (array_of C.ArrayToBytesCodecTraits self.now) (S.held store.old)
-            (region_of read.entry.region.now) chunk.now) }
+            (region_of read.now.region.now) chunk.now) }
         ensures store { OnlyRead S.ReadableStorageTraits store.old store.new (CountsRead result) }
+        ensures given { GivesAtMost S.ReadableStorageTraits (most_at (box_read
+            (path_of self.now) (document_of C.meaning self.now) (S.held store.old)
+            (region_of read.now.region.now) read.now.options.now.workers) chunk.now)
+            store.old store.new }
     {
         let own = self.box_of(rooms.take_own(), chunk)?;
-        if !is_whole(read.region, &own) {
+        if !is_whole(read, &own) {
             rooms.keep_own(own);
-            let found = self.chunk_part(rt, rooms, store, chunk, read)?;
+            let found = self.chunk_part(rooms, store, chunk, read)?;
             return Ok(FetchedChunk::Part(found));
         }
         let key = self.key_of(read.alloc, chunk)?;

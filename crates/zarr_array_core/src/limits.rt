@@ -1,26 +1,7 @@
 //! Whether a chunk has too many elements to be read or written.
-ghost use Rattle.std.specs.Prelude.{◌≤◌, ◌↔◌, ℕ};
-ghost use Rattle.zarr_codecs_meaning.specs.Types.{IsTooLarge};
-ghost use Rattle.zarr_codecs_types.specs.Views.{type_of};
-
 use crate::array_core::ArrayCore;
 use zarr_codecs_traits::ArrayToBytesCodecTraits;
-use zarr_codecs_types::DataType;
 use zarr_grids_boxes::walk::count_places;
-
-/// So many elements, or bytes of them, are too many.
-const TOO_MANY: u64 = 1 << 63;
-
-/// The least number of elements of a data type that are too many.
-fn type_limit(data_type: &DataType) -> u64
-    ensures { (count : ℕ) → (result ≤ count ↔ IsTooLarge (type_of data_type.now) count) }
-{
-    match data_type.byte_width() {
-        Some(0) => TOO_MANY,
-        Some(width) => TOO_MANY.div_ceil(width as u64),
-        None => if data_type.is_fixed() { 1 } else { TOO_MANY },
-    }
-}
 
 impl<C: ArrayToBytesCodecTraits> ArrayCore<C> {
     ghost use Rattle.std.specs.Prelude.{◌≤◌, ◌↔◌, ℕ, IsTrue};
@@ -34,7 +15,7 @@ impl<C: ArrayToBytesCodecTraits> ArrayCore<C> {
         ensures { (count : ℕ) → (result ≤ count
             ↔ IsTooLarge (document_of C.meaning self.now).elements.type count) }
     {
-        type_limit(self.elements().data_type())
+        self.elements().limit()
     }
 
     /// Whether a chunk with this shape has that many.

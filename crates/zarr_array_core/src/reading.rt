@@ -16,9 +16,10 @@ use zarr_grids_boxes::ArraySubset;
 use zarr_grids_boxes::walk::{count_places, place_into};
 
 /// What is read: a box of places, of the chunks that it intersects. What is made takes memory of
-/// `alloc`.
-#[derive(Clone, Copy)]
-pub(crate) struct ReadBox<'a> {
+/// `alloc`; workers are threads of `rt`.
+#[derive(Drop)]
+pub(crate) struct ReadBox<'a, R> {
+    pub rt: &'a R,
     pub alloc: Global,
     pub region: &'a ArraySubset,
     pub chunks: &'a ArraySubset,
@@ -34,22 +35,25 @@ fn are_several(chunks: &ArraySubset) -> bool {
 }
 
 impl<C: ArrayToBytesCodecTraits + Sync> ArrayCore<C> {
-    ghost use Rattle.std.specs.Prelude.{◌≡◌, ◌<◌, IsTrue, IfOk, IfErr, replicate};
+    ghost use Rattle.std.specs.Prelude.{◌≡◌, ◌<◌, IsTrue, IfOk, IfErr};
     ghost use Rattle.zarr_grids_boxes.specs.Boxes.{product};
     ghost use Rattle.zarr_grids_boxes.specs.Subsets.{region_of};
     ghost use Rattle.zarr_grids_chunks.specs.Grids.{IsCovered};
     ghost use Rattle.zarr_grids_cover.specs.Intersecting.{AreIntersecting};
     ghost use Rattle.zarr_codecs_arrays.specs.Views.{payload_of};
     ghost use Rattle.zarr_array_meaning.specs.Boxes.{IsRead};
+    ghost use Rattle.zarr_array_meaning.specs.ReadBytes.{box_read, most_of_box};
     ghost use Rattle.zarr_array_elements.specs.Views.{AreShown, cells_shown};
+    ghost use Rattle.zarr_array_core.specs.Calls.{GivesAtMost};
     ghost use Rattle.zarr_array_core.specs.Views.{document_of, path_of};
     ghost use Rattle.zarr_array_core.specs.Fetching.{OnlyRead};
     ghost use Rattle.zarr_array_core.specs.Outcomes.{CountsRead, GivesBox, ReadStops, IsSmall};
+    ghost use Rattle.zarr_array_core.specs.Parts.{AreFill};
 
     /// The elements of a region that isn't empty, row-major. The first chunk, row-major, that isn't
     /// read decides: `Fit` where it has a value and doesn't fit its codecs, `Damage` where a place
-    /// of it in the region cannot be decoded, `Storage` where the store refuses. Workers decode
-    /// whole chunks, once all are fetched, and subchunks of shards met in part or alone.
+    /// in the region cannot be decoded, `Storage` where the store refuses. Workers decode whole
+    /// chunks, once fetched, and subchunks of others. The store gives at most `most_of_box` bytes.
     pub fn read_region<R: Threads + Sync, S: ReadableStorageTraits>(
         &self,
         rt: &R,
@@ -74,18 +78,22 @@ impl<C: ArrayToBytesCodecTraits + Sync> ArrayCore<C> {
         ensures honest { S.is_honest store.new ≡ S.is_honest store.old }
         ensures refused { CountsRead result
             (S.refused_calls store.old) (S.refused_calls store.new) }
+        ensures given { GivesAtMost S.ReadableStorageTraits (most_of_box (box_read
+            (path_of self.now) (document_of C.meaning self.now) (S.held store.old)
+            (region_of target.entry.region.now) options.now.workers)) store.old store.new }
         ensures accepted { S.accepted_writes store.new ≡ S.accepted_writes store.old }
     {
         let RegionChunks { region, chunks } = target;
         let alloc = rooms.alloc();
         let shown = BoxElements::new_fill_value(alloc, region, &self.elements)?;
         let read = ReadBox {
+            rt,
             alloc,
             region,
             chunks,
             options,
         };
-        match self.read_met(rt, rooms, store, read, shown) {
+        match self.read_met(rooms, store, &read, shown) {
             Ok(shown) => match shown.into_bytes(alloc, region, &self.elements) {
                 Ok(bytes) => Ok(bytes),
                 Err(_) => Err(ChunkError::Memory),
@@ -100,44 +108,45 @@ impl<C: ArrayToBytesCodecTraits + Sync> ArrayCore<C> {
     /// and decoded by several threads.
     fn read_met<R: Threads + Sync, S: ReadableStorageTraits>(
         &self,
-        rt: &R,
         rooms: &mut ChunkRooms,
         store: &mut S,
-        read: ReadBox,
+        read: &ReadBox<R>,
         shown: BoxElements,
     ) -> Result<BoxElements, ChunkError>
-        requires small { IsSmall (document_of C.meaning self.now) (region_of read.region.now) }
+        requires small { IsSmall (document_of C.meaning self.now) (region_of read.now.region.now) }
         requires intersecting { AreIntersecting (document_of C.meaning self.now).grid
-            (region_of read.region.now) (region_of read.chunks.now) }
+            (region_of read.now.region.now) (region_of read.now.chunks.now) }
         requires shown { AreShown (document_of C.meaning self.now).elements
-            (region_of read.region.now) shown }
-        requires fill { cells_shown (document_of C.meaning self.now).elements shown
-            ≡ replicate (product read.region.now.shape.items)
-            (document_of C.meaning self.now).elements.fill }
+            (region_of read.now.region.now) shown }
+        requires fill { AreFill (document_of C.meaning self.now).elements
+            (region_of read.now.region.now) shown }
         ensures shown { IfOk result (AreShown (document_of C.meaning self.now).elements
-            (region_of read.entry.region.now)) }
+            (region_of read.now.region.now)) }
         ensures ok { IsTrue (S.is_honest store.old) → IfOk result (λ made. IsRead
             (path_of self.now) (document_of C.meaning self.now) (S.held store.old)
-            (region_of read.entry.region.now)
+            (region_of read.now.region.now)
             (cells_shown (document_of C.meaning self.now).elements made)) }
         ensures err { IsTrue (S.is_honest store.old) → IfErr result
             (ReadStops (path_of self.now) (document_of C.meaning self.now) (S.held store.old)
-            (region_of read.entry.region.now)) }
+            (region_of read.now.region.now)) }
         ensures store { OnlyRead S.ReadableStorageTraits store.old store.new (CountsRead result) }
+        ensures given { GivesAtMost S.ReadableStorageTraits (most_of_box (box_read
+            (path_of self.now) (document_of C.meaning self.now) (S.held store.old)
+            (region_of read.now.region.now) read.now.options.now.workers)) store.old store.new }
     {
         if !read.options.workers() || !are_several(read.chunks) || self.codecs.encodes_as_is() {
-            return self.read_chunks(rt, rooms, store, read, shown);
+            return self.read_chunks(rooms, store, read, shown);
         }
         let FetchedChunks {
             chunks,
             bytes,
             stopped,
-        } = self.fetch_chunks(rt, rooms, store, read)?;
-        let decoded = self.decode_chunks(rt, read.alloc, chunks, bytes)?;
+        } = self.fetch_chunks(rooms, store, read)?;
+        let decoded = self.decode_chunks(read.rt, read.alloc, chunks, bytes)?;
         let mut target = shown;
         for found in decoded {
             let part = found?;
-            target = self.put_chunk_part(rooms, read, target, part)?;
+            target = self.put_chunk_part(rooms, read.region, target, part)?;
         }
         match stopped {
             Some(error) => Err(error),
@@ -149,30 +158,31 @@ impl<C: ArrayToBytesCodecTraits + Sync> ArrayCore<C> {
     /// intersects were put over them.
     fn read_chunks<R: Threads + Sync, S: ReadableStorageTraits>(
         &self,
-        rt: &R,
         rooms: &mut ChunkRooms,
         store: &mut S,
-        read: ReadBox,
+        read: &ReadBox<R>,
         shown: BoxElements,
     ) -> Result<BoxElements, ChunkError>
-        requires small { IsSmall (document_of C.meaning self.now) (region_of read.region.now) }
+        requires small { IsSmall (document_of C.meaning self.now) (region_of read.now.region.now) }
         requires intersecting { AreIntersecting (document_of C.meaning self.now).grid
-            (region_of read.region.now) (region_of read.chunks.now) }
+            (region_of read.now.region.now) (region_of read.now.chunks.now) }
         requires shown { AreShown (document_of C.meaning self.now).elements
-            (region_of read.region.now) shown }
-        requires fill { cells_shown (document_of C.meaning self.now).elements shown
-            ≡ replicate (product read.region.now.shape.items)
-            (document_of C.meaning self.now).elements.fill }
+            (region_of read.now.region.now) shown }
+        requires fill { AreFill (document_of C.meaning self.now).elements
+            (region_of read.now.region.now) shown }
         ensures shown { IfOk result (AreShown (document_of C.meaning self.now).elements
-            (region_of read.entry.region.now)) }
+            (region_of read.now.region.now)) }
         ensures ok { IsTrue (S.is_honest store.old) → IfOk result (λ made. IsRead
             (path_of self.now) (document_of C.meaning self.now) (S.held store.old)
-            (region_of read.entry.region.now)
+            (region_of read.now.region.now)
             (cells_shown (document_of C.meaning self.now).elements made)) }
         ensures err { IsTrue (S.is_honest store.old) → IfErr result
             (ReadStops (path_of self.now) (document_of C.meaning self.now) (S.held store.old)
-            (region_of read.entry.region.now)) }
+            (region_of read.now.region.now)) }
         ensures store { OnlyRead S.ReadableStorageTraits store.old store.new (CountsRead result) }
+        ensures given { GivesAtMost S.ReadableStorageTraits (most_of_box (box_read
+            (path_of self.now) (document_of C.meaning self.now) (S.held store.old)
+            (region_of read.now.region.now) read.now.options.now.workers)) store.old store.new }
     {
         let first = read.chunks.start();
         let shape = read.chunks.shape();
@@ -183,10 +193,8 @@ impl<C: ArrayToBytesCodecTraits + Sync> ArrayCore<C> {
         let mut target = shown;
         for n in 0..count {
             place_into(first, shape, count, n, chunk);
-            match self.read_chunk(rt, rooms, store, chunk, read, target) {
-                Ok(next) => target = next,
-                Err(error) => return Err(error),
-            }
+            let found = self.chunk_part(rooms, store, chunk, read)?;
+            target = self.put_chunk_part(rooms, read.region, target, found)?;
         }
         rooms.keep_indices(room);
         Ok(target)

@@ -1,12 +1,14 @@
 //! Calls of a store, whose refusals are those of calls over chunks.
 ghost use Rattle.std.specs.Prelude.{◌≡◌, ℕ, IsTrue, IfOk, OnOk, OnErr, IfErr, false, if◌then◌else◌, length, option_map};
 ghost use Rattle.zarr_array_core.specs.Arrays.{Called};
+ghost use Rattle.zarr_array_core.specs.Calls.{GivesAtMost};
 ghost use Rattle.std.specs.FinMap.{get, insert, remove};
 ghost use Rattle.zarr_array_meaning.specs.StoreMaps.{counted};
 ghost use Rattle.zarr_array_storage.specs.Ranges.{patched_at};
 ghost use Rattle.zarr_array_storage.specs.Refusals.{IfByteRange, is_counted};
 ghost use Rattle.zarr_array_storage.specs.Stores.{HasBytesAt, value_bytes};
 ghost use Rattle.zarr_codecs_traits.specs.Patches.{any_too_far, patches_of};
+ghost use Rattle.zarr_codecs_traits.specs.Sources.{value_length};
 ghost use Rattle.zarr_array_core.specs.Outcomes.{IsErasureStop, refused_after, refused_with};
 
 use crate::error::ChunkError;
@@ -39,6 +41,8 @@ pub(crate) fn get<S: ReadableStorageTraits>(
     ensures honest { S.is_honest store.new ≡ S.is_honest store.old }
     ensures refused { S.refused_calls store.new ≡
         refused_after (S.refused_calls store.old) result }
+    ensures given { GivesAtMost S.ReadableStorageTraits
+        (value_length (get (S.held store.old) key.now)) store.old store.new }
     ensures accepted { S.accepted_writes store.new ≡ S.accepted_writes store.old }
 {
     match store.get(key) {
@@ -61,6 +65,7 @@ pub(crate) fn size_key<S: ReadableStorageTraits>(
     ensures honest { S.is_honest store.new ≡ S.is_honest store.old }
     ensures refused { S.refused_calls store.new ≡
         refused_after (S.refused_calls store.old) result }
+    ensures given { S.given_bytes store.new ≡ S.given_bytes store.old }
     ensures accepted { S.accepted_writes store.new ≡ S.accepted_writes store.old }
 {
     match store.size_key(key) {

@@ -5,4 +5,5 @@ pub mod Moved
 pub mod ByNumber
 pub mod Shared
 pub mod Meeting
+pub mod PlacedShown
 pub mod Shown

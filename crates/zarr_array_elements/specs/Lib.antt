@@ -1,3 +1,2 @@
 pub mod Boxes
-pub mod Renumbering
 pub mod Views

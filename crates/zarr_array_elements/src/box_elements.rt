@@ -8,12 +8,13 @@ ghost use Rattle.zarr_array_elements.specs.Boxes.{cells_of, AreOfBox, IsWithin, 
 ghost use Rattle.zarr_array_elements.specs.Views.{cells_shown, AreShown};
 
 use crate::cutting::element_width;
-use crate::numbered::NumberedElements;
+use crate::numbers::numbers_in;
 use crate::putting::put_or_take;
 use std::alloc::{AllocError, Global};
-use zarr_codecs_arrays::{ArrayBytes, CodecError, Elements};
+use zarr_codecs_arrays::{ArrayBytes, Elements};
 use zarr_grids_boxes::ArraySubset;
 use zarr_grids_boxes::walk::count_places;
+use zarr_sharding_places::PlacedElements;
 
 /// Elements of a box while those of other boxes are put over them, one after another. What is put
 /// over them takes time by what it is alone, however large the box is.
@@ -22,7 +23,7 @@ pub enum BoxElements {
     /// The bytes of each element, row-major, and how many bytes each has.
     Fixed(Vec<u8>, usize),
     /// Elements in the order in which they came, and which one is at each place.
-    Numbered(NumberedElements),
+    Placed(PlacedElements),
 }
 
 impl BoxElements {
@@ -43,8 +44,8 @@ impl BoxElements {
         match element_width(elements) {
             Some(width) => filled_fixed(alloc, count, width, elements),
             None => {
-                let all = NumberedElements::new_fill_value(alloc, count as usize, elements)?;
-                Ok(BoxElements::Numbered(all))
+                let all = PlacedElements::new_fill_value(alloc, count as usize, elements)?;
+                Ok(BoxElements::Placed(all))
             }
         }
     }
@@ -82,9 +83,10 @@ impl BoxElements {
                 ArrayBytes::Variable(_bytes, _offsets) => unreachable!(),
                 ArrayBytes::Optional(_inner, _mask) => unreachable!(),
             },
-            BoxElements::Numbered(all) => {
-                let made = all.put(alloc, region, &given, at, elements)?;
-                Ok(BoxElements::Numbered(made))
+            BoxElements::Placed(all) => {
+                let places = numbers_in(alloc, region, at)?;
+                let made = all.put(alloc, places.as_slice(), &given, elements)?;
+                Ok(BoxElements::Placed(made))
             }
         }
     }
@@ -105,7 +107,7 @@ impl BoxElements {
     {
         match self {
             BoxElements::Fixed(bytes, _) => Ok(ArrayBytes::Fixed(bytes)),
-            BoxElements::Numbered(all) => all.gather(alloc, elements),
+            BoxElements::Placed(all) => all.gather(alloc, elements),
         }
     }
 }
@@ -125,7 +127,7 @@ fn filled_fixed(
     ensures cells { IfOk result (λ shown. cells_shown (elements_of elements.now) shown
         ≡ replicate count (elements_of elements.now).fill) }
 {
-    match ArrayBytes::new_fill_value(alloc, elements, count) {
+    match ArrayBytes::fill_values(alloc, elements, count as usize) {
         Ok(ArrayBytes::Fixed(bytes)) => Ok(BoxElements::Fixed(bytes, width)),
         _ => Err(AllocError),
     }

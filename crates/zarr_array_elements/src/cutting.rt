@@ -74,8 +74,31 @@ fn take_numbered(
     gather_elements(alloc, given, elements, numbers.as_slice())
 }
 
-/// The bytes of the elements of a box, of `width` bytes each.
+/// The bytes of the elements of a box, of `width` bytes each: all bytes as they are where the box
+/// is the same.
 fn take_fixed(
+    alloc: Global,
+    bytes: &[u8],
+    from: &ArraySubset,
+    wanted: &ArraySubset,
+    width: usize,
+) -> Result<Vec<u8>, AllocError>
+    requires rank { length wanted.now.start.items ≡ length from.now.start.items }
+    requires positive { 0 < width }
+    requires whole { length bytes.now ≡ product from.now.shape.items * width }
+    requires few { product wanted.now.shape.items < 2 ^ 63 }
+    requires room { product wanted.now.shape.items * width < 2 ^ 63 }
+    ensures { IfOk result (λ made. IsOverlaid width (region_of wanted.now) (region_of from.now)
+        (replicate (product wanted.now.shape.items * width) 0) bytes.now made.items) }
+{
+    if from == wanted {
+        return bytes.to_vec(alloc);
+    }
+    take_rows(alloc, bytes, from, wanted, width)
+}
+
+/// The bytes of the elements of a box, of `width` bytes each, row by row.
+fn take_rows(
     alloc: Global,
     bytes: &[u8],
     from: &ArraySubset,

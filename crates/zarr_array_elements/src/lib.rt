@@ -2,13 +2,10 @@
 #![tactic(auto)]
 
 pub mod box_elements;
-mod concat;
 mod cutting;
-pub mod numbered;
 mod numbers;
 mod putting;
 
 pub use box_elements::BoxElements;
 pub use cutting::take_out;
-pub use numbered::NumberedElements;
 pub use putting::put_over;

@@ -1,12 +1,10 @@
 //! Numbers of elements.
-ghost use Rattle.std.specs.Prelude.{◌≡◌, ◌+◌, ◌^◌, ◌<◌, ℕ, map, length, slice_index, IfOk};
-ghost use Rattle.std.specs.List.{range_with_len};
+ghost use Rattle.std.specs.Prelude.{◌≡◌, ◌<◌, map, length, IfOk};
 ghost use Rattle.zarr_grids_boxes.specs.Boxes.{product, places};
 ghost use Rattle.zarr_grids_boxes.specs.Subsets.{region_of};
 ghost use Rattle.zarr_grids_boxes.specs.Walks.{linearised};
 ghost use Rattle.zarr_array_meaning.specs.Chunks.{number_in};
 ghost use Rattle.zarr_array_elements.specs.Boxes.{IsWithin};
-ghost use Rattle.zarr_array_elements.specs.Renumbering.{renumbered};
 
 use std::alloc::{AllocError, Global};
 use zarr_codecs_regions::{numbers_asked, test_asked};
@@ -42,29 +40,4 @@ fn box_numbers(alloc: Global, shape: &[u64], part: &ArraySubset) -> Result<Vec<u
         return Err(AllocError);
     }
     numbers_asked(alloc, shape, asked)
-}
-
-/// A list of numbers after those from the first one on were written one after another at these
-/// places.
-pub(crate) fn renumber(mut numbers: Vec<u64>, places: &[u64], first: u64) -> Vec<u64>
-    requires inside { (k : ℕ) → k < length places.now
-        → slice_index places.now k < length numbers.items }
-    requires fit { first + length places.now < 2 ^ 64 }
-    ensures { result.items ≡ renumbered first places.now numbers.items }
-{
-    for k in 0..places.len() {
-        numbers[places[k] as usize] = first + k as u64;
-    }
-    numbers
-}
-
-/// So many numbers, from 0 on.
-pub(crate) fn first_numbers(alloc: Global, count: u64) -> Result<Vec<u64>, AllocError>
-    ensures { IfOk result (λ numbers. numbers.items ≡ range_with_len 0 count) }
-{
-    let mut numbers = Vec::with_capacity(alloc, count as usize)?;
-    for n in 0..count {
-        numbers.push(n)?;
-    }
-    Ok(numbers)
 }

@@ -5,14 +5,15 @@ ghost use Rattle.zarr_grids_boxes.specs.Subsets.{region_of};
 ghost use Rattle.zarr_grids_overlay.specs.Overlays.{IsOverlaid};
 ghost use Rattle.zarr_codecs_meaning.specs.Types.{IsTooLarge};
 ghost use Rattle.zarr_codecs_arrays.specs.Views.{payload_of, elements_of};
-ghost use Rattle.zarr_array_elements.specs.Boxes.{cells_of, AreOfBox, ArePutOver, cells_at};
+ghost use Rattle.zarr_array_elements.specs.Boxes.{cells_of, AreOfBox, ArePutOver, cells_at, IsWithin};
 
 use crate::cutting::{element_width, take_out};
-use crate::numbered::NumberedElements;
+use crate::numbers::numbers_in;
 use std::alloc::{AllocError, Global};
 use zarr_codecs_arrays::{ArrayBytes, Elements};
+use zarr_codecs_regions::update_array_bytes;
+use zarr_codecs_traits::Indexer;
 use zarr_grids_boxes::ArraySubset;
-use zarr_grids_boxes::walk::count_places;
 use zarr_grids_overlay::{Extent, overlay};
 
 /// The elements of a box after those of a box `from`, which shares a place with it, were put over
@@ -86,10 +87,48 @@ fn put_numbered(
         return Err(AllocError);
     };
     let part = take_out(alloc, given, from, &shared, elements)?;
-    let count = count_places(region.shape()).unwrap();
-    let whole = NumberedElements::new(alloc, before, count, elements)?;
-    let made = whole.put(alloc, region, &part, &shared, elements)?;
-    made.gather(alloc, elements)
+    put_within(alloc, before, region, &part, &shared, elements)
+}
+
+/// The elements of a box after those of a box `at` that is not empty and lies in it were put over
+/// them, by their numbers. `Err` only where an allocation failed.
+fn put_within(
+    alloc: Global,
+    before: ArrayBytes,
+    region: &ArraySubset,
+    given: &ArrayBytes,
+    at: &ArraySubset,
+    elements: &Elements,
+) -> Result<ArrayBytes, AllocError>
+    requires before { AreOfBox (elements_of elements.now).type (payload_of before)
+        (region_of region.now) }
+    requires given { AreOfBox (elements_of elements.now).type (payload_of given.now)
+        (region_of at.now) }
+    requires rank { length at.now.start.items ≡ length region.now.start.items }
+    requires some { 0 < product at.now.shape.items }
+    requires inside { IsWithin (region_of at.now) (region_of region.now) }
+    ensures counted { IfOk result (λ made. AreOfBox (elements_of elements.now).type
+        (payload_of made) (region_of region.now)) }
+    ensures cells { IfOk result (λ made. ArePutOver (elements_of elements.now).fill
+        (cells_at (region_of at.now)
+        (cells_of (elements_of elements.now).type (payload_of given.now)))
+        (cells_at (region_of region.now)
+        (cells_of (elements_of elements.now).type (payload_of before)))
+        (cells_of (elements_of elements.now).type (payload_of made))) }
+{
+    let places = numbers_in(alloc, region, at)?;
+    let indexer = Indexer::List(places.as_slice());
+    match update_array_bytes(
+        alloc,
+        before,
+        region.shape(),
+        indexer,
+        given,
+        elements.data_type(),
+    ) {
+        Ok(made) => Ok(made),
+        Err(_) => Err(AllocError),
+    }
 }
 
 /// The bytes of the elements of a box, of `width` bytes each, after others were put over them.

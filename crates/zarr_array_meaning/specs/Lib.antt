@@ -14,3 +14,5 @@ pub mod Writing
 pub mod Compacting
 pub mod Rewriting
 pub mod Versions
+pub mod ReadBytes
+pub mod WorkedReads

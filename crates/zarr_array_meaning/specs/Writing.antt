@@ -14,7 +14,7 @@ use Rattle.zarr_codecs_meaning.specs.Refusals.{CodecRefuses, PassesIndex}
 use Rattle.zarr_codecs_meaning.specs.Laws.{AreCells}
 use Rattle.zarr_codecs_meaning.specs.Standing.{Stands, ChunkStands}
 use Rattle.zarr_codecs_traits.specs.Indexers.{numbers_of}
-use Rattle.zarr_codecs_traits.specs.PartWriting.{PartsRefused, PassesLength, StopsPart, after_write}
+use Rattle.zarr_codecs_traits.specs.PartWriting.{AfterWrite, PartsRefused, PassesLength, StopsPart, WholeRefused, after_write}
 use Rattle.zarr_array_meaning.specs.Arrays.{value_at}
 use Rattle.zarr_array_meaning.specs.Boxes.{cell_of_box, lies_in_any, replaced_in}
 use Rattle.zarr_array_meaning.specs.Chunks.{stored_at, fits_box, decoded_in, part_at, ReadsCell, holds_box, is_listed, KeepsOtherKeys}
@@ -97,12 +97,16 @@ pub record IsPartDamaged (write : Write) (box : Region) (stored : Option (List �
   pub part : holds_box write.region box ≡ false
   pub lost : Loses write.array.document write.options write.region box stored
 
--- a shard isn't decoded, and there is no room behind it for the new slices: put there, they would make 2^63 bytes or more
+-- what a write puts into what is stored for a chunk, whose cells are then these
+abbrev pub part_write : Write → Region → Option (List ℕ) → List Cell → AfterWrite
+part_write write box stored cells = after_write (shared_numbers write.region box) stored cells
+
+-- a shard isn't decoded, and there is no room behind it for the new slices of the subchunks that the box meets: put there, they would make 2^63 bytes or more
 pub record LacksRoom (write : Write) (box : Region) (stored : Option (List ℕ)) : Type 0 where
   pub fit : fits_box write.array.document box ≡ true
   pub into : goes_into_shard write box ≡ true
   pub undecoded : decoded_in write.array.document box stored ≡ None
-  pub passes : (cells : List Cell) × ChunkBecomes write box stored cells × PassesLength write.array.document.chain write.array.document.elements box.shape stored cells
+  pub passes : (cells : List Cell) × ChunkBecomes write box stored cells × PassesLength write.array.document.chain write.array.document.elements box.shape (part_write write box stored cells)
 
 -- the chunk's new cells are encoded: cells that are all fill only where such a chunk is stored
 abbrev pub IsEncodedFor : Write → Region → List Cell → Type 0
@@ -112,9 +116,10 @@ IsEncodedFor write box cells = goes_into_shard write box ≡ false → keeps_fil
 abbrev pub RefusesCells : Write → Region → Option (List ℕ) → List Cell → Type 0
 RefusesCells write box stored cells =
     let document = write.array.document in
-    let whole = CodecRefuses document.chain document.elements box.shape cells in
-    let met = PartsRefused document.chain document.elements box.shape (after_write (shared_numbers write.region box) stored cells) in
-    MatchBool (goes_into_shard write box) (met ⊎ (PassesLength document.chain document.elements box.shape stored cells × whole)) whole
+    let part = part_write write box stored cells in
+    let whole = WholeRefused document.chain document.elements box.shape cells in
+    MatchBool (goes_into_shard write box) (PartsRefused document.chain document.elements box.shape part ⊎ (PassesLength document.chain document.elements box.shape part × whole))
+    (CodecRefuses document.chain document.elements box.shape cells)
 
 -- the caller's codec refuses bytes that encoding the chunk's new cells calls for
 pub record IsCodecRefused (write : Write) (box : Region) (stored : Option (List ℕ)) : Type 0 where
@@ -132,7 +137,7 @@ pub record IsOversized (write : Write) (box : Region) (stored : Option (List ℕ
   pub called : IsEncodedFor write box cells
   pub passes : PassesIndex write.array.document.chain write.array.document.elements box.shape cells
       ⊎ ((value : List ℕ) × (encoded write.array.document.chain write.array.document.elements box.shape cells ≡ Some value) × (2 ^ 63 ≤ length value))
-      ⊎ ((goes_into_shard write box ≡ true) × PassesLength write.array.document.chain write.array.document.elements box.shape stored cells)
+      ⊎ ((goes_into_shard write box ≡ true) × PassesLength write.array.document.chain write.array.document.elements box.shape (part_write write box stored cells))
 
 -- a chunk that was written has its new cells, and a key exactly where these are not all fill or such a chunk is stored, whatever the chain keeps of them; its value is what encoding makes of these cells, where that depends on them alone (`exact`), as without shards, and the box holds the whole chunk or the chunk was decoded before. Where a part was put into its shard, it has a key exactly where its cells aren't all fill, if what was stored stood for cells; where it was written in part, each other element keeps its bytes, also where they are no value
 pub record IsKeyed (write : Write) (box : Region) (old new : Option (List ℕ)) : Type 0 where

@@ -1,10 +1,12 @@
-//! Laws of written documents, of the cells that a store shows, and of what reads and writes of
-//! boxes may leave. Each function does nothing: its contract is the law.
+//! Laws of written documents, of the cells that a store shows, of what reads and writes of boxes
+//! may leave, and of how many bytes reads take. Each function does nothing: its contract is the
+//! law.
 ghost use Rattle.zarr_array_meaning.specs.Laws.{MetadataReadsBack, DocumentReadsBack, WrittenOnce, KeepsVersion, KeepsGiven, ConvertedSaysSame, StoredReadsBack, HasOneDocument};
 ghost use Rattle.zarr_array_meaning.specs.Versions.{RetrievesOne, ErasedAreGone};
 ghost use Rattle.zarr_array_meaning.specs.Boxes.{ReadsOneWay};
 ghost use Rattle.zarr_array_meaning.specs.Standing.{StandingShows, NothingStoredShows, ShowingSomething, ReadsValues};
 ghost use Rattle.zarr_array_meaning.specs.Writing.{WrittenUndamaged, WrittenKeysAlike, RewrittenAlike};
+ghost use Rattle.zarr_array_meaning.specs.WorkedReads.{BoxReadRows, ChunkReadRows};
 
 /// What is written for a document that opens says what that one says, with the mark among its
 /// attributes.
@@ -100,4 +102,14 @@ pub fn written_keys_alike()
 /// stays alike.
 pub fn rewritten_alike()
     ensures { RewrittenAlike }
+{}
+
+/// How many bytes are taken at most of what is stored for chunks, worked out by hand.
+pub fn chunk_read_rows()
+    ensures { ChunkReadRows }
+{}
+
+/// How many bytes reads take at most of what is stored for two chunks, worked out by hand.
+pub fn box_read_rows()
+    ensures { BoxReadRows }
 {}

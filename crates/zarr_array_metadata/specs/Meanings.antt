@@ -6,7 +6,7 @@ use Rattle.zarr_grids_keys.specs.Encodings.{keys_of}
 use Rattle.zarr_codecs_meaning.specs.Chains.{ByteCodec}
 use Rattle.zarr_codecs_metadata.specs.Chains.{ReadsCodecs}
 use Rattle.zarr_codecs_arrays.specs.Views.{elements_of}
-use Rattle.zarr_sharding_arrays.specs.ArrayChains.{array_meaning}
+use Rattle.zarr_sharding_chains.specs.ArrayChains.{array_meaning}
 use Rattle.zarr_array_meaning.specs.Documents.{Document, Metadata, ◌>>=◌, version_3_of, read_members}
 use Rattle.zarr_array_meaning.specs.declared.error.DocumentError.{DocumentError}
 use Rattle.zarr_array_metadata.specs.declared.document.ArrayDocument.{ArrayDocument}

@@ -3,7 +3,7 @@ use zarr_codecs_arrays::Elements;
 use zarr_codecs_traits::BytesToBytesCodecTraits;
 use zarr_grids_chunk_grids::ChunkGrid;
 use zarr_grids_keys::ChunkKeyEncoding;
-use zarr_sharding_arrays::ArrayChain;
+use zarr_sharding_chains::ArrayChain;
 
 /// What a document that was opened says of an array's elements and of where they are stored.
 #[derive(Debug, Drop)]

@@ -7,7 +7,7 @@ ghost use Rattle.zarr_codecs_types.specs.Metadata.{data_type_in};
 ghost use Rattle.zarr_codecs_types.specs.Views.{type_of};
 ghost use Rattle.zarr_codecs_arrays.specs.Views.{elements_of};
 ghost use Rattle.zarr_codecs_metadata.specs.Chains.{points_in};
-ghost use Rattle.zarr_sharding_arrays.specs.ArrayChains.{array_meaning};
+ghost use Rattle.zarr_sharding_chains.specs.ArrayChains.{array_meaning};
 ghost use Rattle.zarr_array_meaning.specs.Parts.{codecs_in, fill_in, has_no_transformers, is_empty_list};
 
 use serde_json::Value;
@@ -17,7 +17,7 @@ use zarr_codecs_arrays::Elements;
 use zarr_codecs_traits::BytesToBytesCodecTraits;
 use zarr_codecs_types::{DataType, DataTypeError, FillValue, FillValueError};
 use zarr_grids_metadata::{MetadataV3, PluginCreateError};
-use zarr_sharding_arrays::{ArrayChain, read_array_chain};
+use zarr_sharding_chains::{ArrayChain, read_array_chain};
 
 /// The codecs; `Codecs` where they make no chain that is known.
 pub(crate) fn codecs_in<B: BytesToBytesCodecTraits>(

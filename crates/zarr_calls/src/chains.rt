@@ -1,12 +1,11 @@
 //! The chains that arrays have.
-use crate::{decoders, states};
 use anyhow::Result;
 use std::alloc::Global;
 use std::marker::Sync;
 use std::thread::Threads;
 use zarr_calls_grids::words::{cut, metadatas_in, refused, texts_of};
 use zarr_calls_kinds::{TestCodec, answer_of_chain};
-use zarr_sharding_arrays::ArrayChain;
+use zarr_sharding_chains::ArrayChain;
 
 /// What a call of a chain gives. Its first argument is the metadata of the chain's codecs.
 pub(crate) fn answer<R: Threads + Sync>(
@@ -21,8 +20,8 @@ pub(crate) fn answer<R: Threads + Sync>(
     let (codecs, rest) = cut(rest)?;
     let chain = chain_in(alloc, codecs)?;
     match name {
-        "state" => states::answer(rt, alloc, &chain, rest),
-        "decoder" | "index" => decoders::answer(rt, alloc, &chain, name, rest),
+        "state" => zarr_calls_states::answer(rt, alloc, &chain, rest),
+        "decoder" | "index" => zarr_calls_decoders::answer(rt, alloc, &chain, name, rest),
         _ => answer_of_chain(rt, alloc, &chain, name, rest),
     }
 }

@@ -5,11 +5,8 @@
 #![tactic(auto)]
 
 mod chains;
-mod decoders;
 mod documents;
 mod lines;
-mod states;
-mod steps;
 
 fn main(rt: HostRuntime) -> anyhow::Result<()> {
     lines::answer_lines(&rt, rt.alloc(), rt.stdin(), &mut rt.stdout())

@@ -14,7 +14,7 @@ use Rattle.zarr_codecs_arrays.specs.declared.error.CodecError.{CodecError}
 use Rattle.zarr_codecs_arrays.specs.declared.error.CodecError.TheVariants as error
 use Rattle.zarr_codecs_array_to_array.specs.declared.codec.ArrayToArrayCodec.{ArrayToArrayCodec}
 use Rattle.zarr_codecs_traits.specs.Arrays.{coded}
-use Rattle.zarr_codecs_traits.specs.Outcomes.{UndoesBytes, Encodes, Decodes, EncodesShape, IsMoved, EncodesArray, DecodesArray}
+use Rattle.zarr_codecs_traits.specs.Outcomes.{UndoesBytes, Encodes, Decodes, EncodesShape, IsMoved, EncodesArray, DecodesArray, moving}
 use Rattle.zarr_codecs_traits.specs.Representations.{RepresentsArray}
 use Rattle.zarr_codecs_traits.specs.declared.bytes_representation.BytesRepresentation.{BytesRepresentation}
 use Rattle.zarr_codecs_around.specs.ArrayCodecs.{shape_after, all_fit, EncodesShapes, MovesAll, UndoesAll}
@@ -80,7 +80,7 @@ never_takes meaning (codec ∷ codecs) chain after some = refl
 -- ---- elements that are moved
 
 pub moves_next : (codec : ArrayCodec) (codecs : List ArrayCodec) (elements : Elements) (shape : List ℕ) (payload : Payload) (moved : ArrayBytes) (r : Result ArrayBytes CodecError) → is_value elements.type elements.fill ≡ true
-    → all_fit codecs (encoded_shape codec shape) ≡ true → IsMoved codec elements shape (product shape) (source_places codec shape) payload (payload_of moved) → MovesAll codecs elements (encoded_shape codec shape) (payload_of moved) r
+    → all_fit codecs (encoded_shape codec shape) ≡ true → IsMoved (moving codec elements shape (product shape) (source_places codec shape)) payload (payload_of moved) → MovesAll codecs elements (encoded_shape codec shape) (payload_of moved) r
     → MovesAll (codec ∷ codecs) elements shape payload r
 moves_next codec codecs elements shape payload moved (Ok made) fill all m rest = λ chain exact r fit h.
     encodes_after codec (with_array_codecs codecs chain) exact elements shape payload (payload_of moved) r fill (all_suit codecs chain elements.type (encoded_shape codec shape) all fit) m (rest chain exact r fit h)

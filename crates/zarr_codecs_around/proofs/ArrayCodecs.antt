@@ -10,6 +10,7 @@ use Rattle.zarr_codecs_meaning.specs.Chunks.{chunk_part}
 use Rattle.zarr_codecs_meaning.specs.Decoding.{all_there, cell_at, opens, part_decoded}
 use Rattle.zarr_codecs_meaning.specs.Encoding.{encoded}
 use Rattle.zarr_codecs_meaning.specs.Fits.{array_codec_fits, fits}
+use Rattle.zarr_codecs_meaning.specs.Making.{IsMadeOf}
 use Rattle.zarr_codecs_meaning.specs.Payloads.{Payload}
 use Rattle.zarr_codecs_meaning.specs.Places.{encoded_shape, gather, position_of, source_places, undone_places}
 use Rattle.zarr_codecs_meaning.specs.Refusals.{CodecRefuses, PassesIndex}
@@ -26,7 +27,7 @@ use Rattle.zarr_codecs_arrays.specs.declared.error.CodecError.TheVariants as err
 use Rattle.zarr_codecs_array_to_array.specs.Moving.{are_places, moved_numbers}
 use Rattle.zarr_codecs_traits.specs.Indexers.{Asked, listed}
 use Rattle.zarr_codecs_traits.specs.Arrays.{coded}
-use Rattle.zarr_codecs_traits.specs.Outcomes.{Encodes, Decodes, DecodesPart, EncodesShape, IsMoved, EncodesArray, DecodesArray}
+use Rattle.zarr_codecs_traits.specs.Outcomes.{Encodes, Decodes, DecodesPart, EncodesShape, IsMoved, EncodesArray, DecodesArray, moving}
 use Rattle.zarr_codecs_traits.specs.Representations.{RepresentsArray}
 use Rattle.zarr_codecs_traits.specs.declared.bytes_representation.BytesRepresentation.{BytesRepresentation}
 use Rattle.zarr_codecs_around.proofs.Counts.{array_codec_places}
@@ -69,7 +70,7 @@ not_invalid type payload count cells error.CellOutOfRange counted values h =
 not_invalid type payload count cells e counted values h = absurd h
 
 -- what an array codec made of an array's elements
-moved_counted : (codec : ArrayCodec) (elements : Elements) (shape : List ℕ) (payload made : Payload) → (m : IsMoved codec elements shape (product shape) (source_places codec shape) payload made)
+moved_counted : (codec : ArrayCodec) (elements : Elements) (shape : List ℕ) (payload made : Payload) → (m : IsMoved (moving codec elements shape (product shape) (source_places codec shape)) payload made)
     → IsCounted elements.type made (product (encoded_shape codec shape)) (gather elements.fill m.cells (source_places codec shape))
 moved_counted codec elements shape payload made m = record { lists = m.lists; many = length-gather elements.fill m.cells (source_places codec shape) ∙ array_codec_count codec shape m.fit }
 
@@ -77,7 +78,7 @@ moved_counted codec elements shape payload made m = record { lists = m.lists; ma
 
 -- what the other codecs make of what the first made
 pub encodes_after : (codec : ArrayCodec) (chain : Chain) (exact : Bool) (elements : Elements) (shape : List ℕ) (payload made : Payload) (r : Result (Vec ℕ Global) CodecError) → is_value elements.type elements.fill ≡ true
-    → fits chain elements.type (encoded_shape codec shape) ≡ true → IsMoved codec elements shape (product shape) (source_places codec shape) payload made
+    → fits chain elements.type (encoded_shape codec shape) ≡ true → IsMoved (moving codec elements shape (product shape) (source_places codec shape)) payload made
     → Encodes (coded chain elements (encoded_shape codec shape)) exact made r → Encodes (coded (after_array_codec codec chain) elements shape) exact payload r
 encodes_after codec chain exact elements shape payload made (Ok value) fill fit m h =
     let same : h.0 ≡ gather elements.fill m.cells (source_places codec shape) = some_same (sym h.1.valid.is.lists ∙ m.lists) in (
@@ -85,6 +86,7 @@ encodes_after codec chain exact elements shape payload made (Ok value) fill fit 
       record {
         valid = m.valid;
         fit = fit_after codec chain elements.type shape m.fit fit;
+        made = subst (λ cs. IsMadeOf chain elements (encoded_shape codec shape) cs value.items) same h.1.made;
         encodes = λ one. ap (encoded chain elements (encoded_shape codec shape)) (sym same) ∙ h.1.encodes one;
         stands = λ lossless. subst (Stands chain elements (encoded_shape codec shape) value.items) same (h.1.stands lossless);
         sized = h.1.sized;
@@ -159,7 +161,7 @@ unshaped_decoding codec chain elements shape value e h = absurd h
 
 pub represents_after : (codec : ArrayCodec) (chain : Chain) (type : DataType) (shape : List ℕ) (r : Result BytesRepresentation CodecError) → array_codec_fits codec shape ≡ true
     → RepresentsArray chain type (encoded_shape codec shape) r → RepresentsArray (after_array_codec codec chain) type shape r
-represents_after codec chain type shape (Ok known) fit h = record { fit = fit_after codec chain type shape fit h.fit; is = h.is }
+represents_after codec chain type shape (Ok known) fit h = record { fit = fit_after codec chain type shape fit h.fit; is = h.is; short = h.short }
 represents_after codec chain type shape (Err error.Fit) fit h = unfit_after codec chain type shape h
 represents_after codec chain type shape (Err error.Size) fit (inl large) = inl (larger_before codec type shape fit large)
 represents_after codec chain type shape (Err error.Size) fit (inr long) = inr long

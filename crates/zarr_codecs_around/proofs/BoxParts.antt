@@ -10,7 +10,7 @@ use Rattle.zarr_codecs_meaning.specs.Chains.ArrayCodec.{transpose, reshape, sque
 use Rattle.zarr_codecs_meaning.specs.Chains.Chain.{bytes, packbits, vlen, optional, after_array_codec, then_bytes, sharded}
 use Rattle.zarr_codecs_meaning.specs.Chains.Padding.{no_padding_byte, first_byte, last_byte}
 use Rattle.zarr_codecs_meaning.specs.Chunks.{chunk_part}
-use Rattle.zarr_codecs_meaning.specs.Decoding.{decoded, is_absent, pairs_in}
+use Rattle.zarr_codecs_meaning.specs.Decoding.{decoded, pairs_in}
 use Rattle.zarr_codecs_meaning.specs.Encoding.{Pair, index_size}
 use Rattle.zarr_codecs_meaning.specs.Fits.{array_codec_fits, is_plain}
 use Rattle.zarr_codecs_meaning.specs.Partial.{encodes_in_part}
@@ -29,7 +29,7 @@ use Rattle.zarr_codecs_traits.specs.Indexers.{in_box, numbers_asked}
 use Rattle.zarr_codecs_traits.specs.Arrays.{coded}
 use Rattle.zarr_codecs_traits.specs.Outcomes.{DecodesArray, DecodesPart}
 use Rattle.zarr_codecs_traits.specs.PartWriting.{is_met}
-use Rattle.zarr_codecs_traits.specs.ReadBytes.{bytes_of_numbers, most_read, slices_met}
+use Rattle.zarr_codecs_traits.specs.ReadBytes.{bytes_of_numbers, most_read, slice_length, slices_met}
 use Rattle.zarr_codecs_boxes.specs.Regions.{encoded_region}
 use Rattle.zarr_codecs_boxes.specs.Updates.{IsBoxIn}
 use Rattle.zarr_codecs_boxes.proofs.Moved.{fits_box}
@@ -160,14 +160,13 @@ moved_alike codec shape ns ms alike =
     }
 
 -- the same subchunks are met
-slices_alike : (ns ms : List ℕ) (parts : List Part) (pairs : List Pair) → AreAlike ns ms → slices_met ns parts pairs ≡ slices_met ms parts pairs
-slices_alike ns ms [] pairs alike = refl
-slices_alike ns ms (part ∷ parts) [] alike = refl
-slices_alike ns ms (part ∷ parts) (pair ∷ pairs) alike =
+slices_alike : (total : ℕ) (ns ms : List ℕ) (parts : List Part) (pairs : List Pair) → AreAlike ns ms → slices_met total ns parts pairs ≡ slices_met total ms parts pairs
+slices_alike total ns ms [] pairs alike = refl
+slices_alike total ns ms (part ∷ parts) [] alike = refl
+slices_alike total ns ms (part ∷ parts) (pair ∷ pairs) alike =
     let test = λ (n : ℕ). nat_lt (position_of n part.places) (length part.places) in
     let met = same_answer (list_any test ns) (list_any test ms) (alike.ahead test) (alike.back test) in
-    ap (λ (b : Bool). (if b && not (is_absent pair) then pair.1 else 0) + slices_met ns parts pairs) met
-    ∙ ap (λ n. (if is_met ms part && not (is_absent pair) then pair.1 else 0) + n) (slices_alike ns ms parts pairs alike)
+    ap (λ (b : Bool). (if b then slice_length total pair else 0) + slices_met total ns parts pairs) met ∙ ap (λ n. (if is_met ms part then slice_length total pair else 0) + n) (slices_alike total ns ms parts pairs alike)
 
 -- a chain behind a `reshape` takes any order where it does so with it
 takes_behind : (plain partly others : Bool) → ((plain && partly) || others) ≡ true → (partly || others) ≡ true
@@ -192,7 +191,7 @@ any_order (after_array_codec squeeze chain) type shape ns ms value takes alike =
 any_order (then_bytes chain codec) type shape ns ms value takes alike = refl
 any_order (sharded subchunk inner index location) type shape ns ms value takes alike =
     let pairs_shape = index_shape shape subchunk in
-    ap (λ n. index_size index pairs_shape + n) (slices_alike ns ms (parts_of shape subchunk) (unwrap_or (pairs_in (decoded index (zero_filled uint64) pairs_shape) location (index_size index pairs_shape) value) []) alike)
+    ap (λ n. index_size index pairs_shape + n) (slices_alike (length value) ns ms (parts_of shape subchunk) (unwrap_or (pairs_in (decoded index (zero_filled uint64) pairs_shape) location (index_size index pairs_shape) value) []) alike)
 
 any_order_after : (codecs : List ArrayCodec) (chain : Chain) (type : DataType) (shape ns ms value : List ℕ) → takes_any_order chain ≡ true → AreAlike ns ms
     → bytes_of_numbers (with_array_codecs codecs chain) type shape ns value ≡ bytes_of_numbers (with_array_codecs codecs chain) type shape ms value

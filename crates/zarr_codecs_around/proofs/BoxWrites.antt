@@ -1,5 +1,5 @@
 -- Boxes that are written through array codecs.
-use Rattle.std.proofs.Common.{◌≡◌, ◌∙◌, ℕ, ◌<◌, List, [], ◌∷◌, length, map, get_or, refl, sym, ap, subst, arith, Option, Some, None, Bool, true, false, MatchBool, if◌then◌else◌, inl, inr, Result, Ok, Err}
+use Rattle.std.proofs.Common.{◌≡◌, ◌∙◌, ℕ, ◌<◌, List, [], ◌∷◌, length, map, get_or, refl, sym, ap, subst, arith, Option, Some, None, Bool, true, false, MatchBool, if◌then◌else◌, inl, inr, ◌⊎◌, Result, Ok, Err}
 use Rattle.std.specs.Prelude.{MatchOption, nat_lt}
 use Rattle.std.specs.List.{range_with_len}
 use Rattle.std.proofs.lemmas.List.{get_or-map, length-map}
@@ -14,7 +14,7 @@ use Rattle.zarr_codecs_meaning.specs.Fits.{fits}
 use Rattle.zarr_codecs_meaning.specs.Partial.{encodes_in_part}
 use Rattle.zarr_codecs_meaning.specs.Payloads.{Payload}
 use Rattle.zarr_codecs_meaning.specs.Places.{Part, encoded_shape, gather, parts_of, position_of, source_places, undone_places}
-use Rattle.zarr_codecs_meaning.specs.Refusals.{CodecRefuses}
+use Rattle.zarr_codecs_meaning.specs.Refusals.{CodecRefuses, PassesIndex}
 use Rattle.zarr_codecs_meaning.specs.Standing.{ChunkStands}
 use Rattle.zarr_codecs_meaning.specs.Types.{Cell, DataType, Elements, is_fill, is_value}
 use Rattle.zarr_codecs_meaning.proofs.ArrayCodecs.{array_codec_count, length-gather, values_gathered}
@@ -27,9 +27,9 @@ use Rattle.zarr_codecs_arrays.specs.declared.error.CodecError.{CodecError}
 use Rattle.zarr_codecs_arrays.specs.declared.error.CodecError.TheVariants as error
 use Rattle.zarr_codecs_array_to_array.specs.Moving.{moved_numbers}
 use Rattle.zarr_codecs_traits.specs.Indexers.{in_box, listed, numbers_asked, put}
-use Rattle.zarr_codecs_traits.specs.Outcomes.{EncodesArray, IsMoved}
+use Rattle.zarr_codecs_traits.specs.Outcomes.{EncodesArray, IsMoved, moving}
 use Rattle.zarr_codecs_traits.specs.Arrays.{coded, update_of}
-use Rattle.zarr_codecs_traits.specs.PartWriting.{AfterPut, AreMet, ChunkTight, IsDamaged, IsEncodedInto, IsLostAmong, LacksRoom, MeetsLost, MetRefused, NotEncodedInto, PartsRefused, PassesLength, StopsPart, StopsWrite, WriteRefuses, after_write, cells_after, cells_shown, is_met, no_part, only_cell, part_at}
+use Rattle.zarr_codecs_traits.specs.PartWriting.{AfterPut, AreMet, AreNewSlices, ChunkTight, IsDamaged, IsEncodedInto, IsLostAmong, LacksRoom, MeetsLost, MetRefused, NotEncodedInto, PartsRefused, PassesLength, StopsPart, StopsWrite, WholeRefused, WriteRefuses, after_write, cells_after, cells_shown, is_met, no_part, only_cell, part_at}
 use Rattle.zarr_codecs_traits.specs.ShardWrites.{Appends, AppendsParts, IsStoredGapless, LeavesParts, most_for_parts}
 use Rattle.zarr_codecs_traits.specs.Sources.{value_length}
 use Rattle.zarr_codecs_traits.proofs.WrittenWhole.{either_by, gives_by}
@@ -132,7 +132,7 @@ damaged_any chain elements shape (Some value) ns ms any h = by (encodes_in_part 
 
 -- elements that an array codec moved as those of an array of the box's shape
 abbrev pub IsTurned : ArrayCodec → Elements → Region → Payload → Payload → Type 0
-IsTurned codec elements region payload turned = IsMoved codec elements region.shape (product region.shape) (source_places codec region.shape) payload turned
+IsTurned codec elements region payload turned = IsMoved (moving codec elements region.shape (product region.shape) (source_places codec region.shape)) payload turned
 
 -- each cell in the order of places
 ones_picked : (fill : Cell) (cells : List Cell) (ks : List ℕ) → map (λ (cell : Cell). Some (cell ∷ [])) (gather fill cells ks) ≡ picked (Some (fill ∷ [])) (map (λ (cell : Cell). Some (cell ∷ [])) cells) ks
@@ -166,8 +166,8 @@ written_turned codec chain exact elements shape region moved payload turned cell
       stands = λ lossless before are is. subst (ChunkStands chain elements (encoded_shape codec shape) new) (there before are.whole) (h.stands lossless before are is);
       tight = λ e lossless before are is. subst (ChunkTight chain elements (encoded_shape codec shape) new) (there before are.whole) (h.tight e lossless before are is);
       absent = λ shards lossless before are is filled. h.absent shards lossless before are is (ap (is_fill fill) (there before are.whole) ∙ filled);
-      encodes = λ e plain before are is.
-          let found = h.encodes e plain before are is in
+      encodes = λ plain before are is.
+          let found = h.encodes plain before are is in
           (found.0, found.1, ap (encoded chain elements (encoded_shape codec shape)) (sym (there before are.whole)) ∙ found.2);
       shows = λ lossless.
           let shown = cells_shown chain elements (encoded_shape codec shape) old in
@@ -213,11 +213,6 @@ refused_turned codec chain elements shape region moved payload turned stored ref
       is = subst refuses there h.is;
     }
 
-room_turned : (codec : ArrayCodec) (chain : Chain) (elements : Elements) (shape : List ℕ) (region moved : Region) (payload turned : Payload) (stored : Option (List ℕ)) → IsMovedBox codec shape region moved → IsTurned codec elements region payload turned
-    → LacksRoom (coded chain elements (encoded_shape codec shape)) (update_of (in_box moved) turned stored) → LacksRoom (coded chain elements (encoded_shape codec shape)) (update_of (listed (moved_of codec shape region)) payload stored)
-room_turned codec chain elements shape region moved payload turned stored b m room =
-    refused_turned codec chain elements shape region moved payload turned stored (PassesLength chain elements (encoded_shape codec shape) stored) b m room
-
 -- ---- what is met, by numbers with the same places
 
 met_alike : (ns ms : List ℕ) (part : Part) → AreAlike ns ms → is_met ns part ≡ is_met ms part
@@ -232,6 +227,27 @@ are_met_alike ns ms parts changes alike h = record {
   rising = h.rising;
   all = λ k low met. h.all k low (met_alike ns ms (get_or parts k no_part) alike ∙ met);
 }
+
+-- what a write changes in a shard
+new_slices_alike : (inner : Chain) (elements : Elements) (parts : List Part) (ns ms : List ℕ) (stored : Option (List ℕ)) (cells : List Cell) (changes : List Change) → AreAlike ns ms
+    → AreNewSlices inner elements parts (after_write ns stored cells) changes → AreNewSlices inner elements parts (after_write ms stored cells) changes
+new_slices_alike inner elements parts ns ms stored cells changes alike h = record { met = are_met_alike ns ms parts changes alike h.met; made = h.made }
+
+passes_length_alike : (chain : Chain) (elements : Elements) (shape ns ms : List ℕ) (stored : Option (List ℕ)) (cells : List Cell) → AreAlike ns ms → PassesLength chain elements shape (after_write ns stored cells) → PassesLength chain elements shape (after_write ms stored cells)
+passes_length_alike (bytes order) elements shape ns ms stored cells alike h = h
+passes_length_alike (packbits padding first last) elements shape ns ms stored cells alike h = h
+passes_length_alike (vlen index «data» width location) elements shape ns ms stored cells alike h = h
+passes_length_alike (optional mask values) elements shape ns ms stored cells alike h = h
+passes_length_alike (after_array_codec codec chain) elements shape ns ms stored cells alike h =
+    passes_length_alike chain elements (encoded_shape codec shape) (moved_numbers codec shape ns) (moved_numbers codec shape ms) stored (gather elements.fill cells (source_places codec shape)) (moved_alike codec shape ns ms alike) h
+passes_length_alike (then_bytes chain codec) elements shape ns ms stored cells alike h = h
+passes_length_alike (sharded subchunk inner index location) elements shape ns ms stored cells alike (inl long) = inl long
+passes_length_alike (sharded subchunk inner index location) elements shape ns ms stored cells alike (inr h) = inr (h.0, new_slices_alike inner elements (parts_of shape subchunk) ns ms stored cells h.0 alike h.1, h.2)
+
+long_alike : (chain : Chain) (elements : Elements) (shape ns ms : List ℕ) (stored : Option (List ℕ)) (cells : List Cell) → AreAlike ns ms → PassesIndex chain elements shape cells ⊎ PassesLength chain elements shape (after_write ns stored cells)
+    → PassesIndex chain elements shape cells ⊎ PassesLength chain elements shape (after_write ms stored cells)
+long_alike chain elements shape ns ms stored cells alike (inl passes) = inl passes
+long_alike chain elements shape ns ms stored cells alike (inr long) = inr (passes_length_alike chain elements shape ns ms stored cells alike long)
 
 met_refused_alike : (refused : List ℕ → List Cell → Type 0) (fill : Cell) (ns ms : List ℕ) (stored : Option (List ℕ)) (cells : List Cell) (parts : List Part) → AreAlike ns ms
     → MetRefused refused fill (after_write ns stored cells) parts → MetRefused refused fill (after_write ms stored cells) parts
@@ -249,7 +265,7 @@ parts_refused_alike (after_array_codec codec chain) elements shape ns ms stored 
 parts_refused_alike (then_bytes chain codec) elements shape ns ms stored cells alike h = h
 parts_refused_alike (sharded subchunk inner index location) elements shape ns ms stored cells alike (inl h) =
     inl (met_refused_alike (CodecRefuses inner elements) elements.fill ns ms stored cells (parts_of shape subchunk) alike h)
-parts_refused_alike (sharded subchunk inner index location) elements shape ns ms stored cells alike (inr h) = inr (h.0, h.1, h.2, are_met_alike ns ms (parts_of shape subchunk) h.1 alike h.3, h.4, h.5)
+parts_refused_alike (sharded subchunk inner index location) elements shape ns ms stored cells alike (inr h) = inr (h.0, h.1, h.2, new_slices_alike inner elements (parts_of shape subchunk) ns ms stored cells h.1 alike h.3, h.4, h.5)
 
 appends_alike : (chain : Chain) (elements : Elements) (shape ns ms : List ℕ) (stored new : Option (List ℕ)) (cells : List Cell) → AreAlike ns ms → Appends chain elements shape (after_write ns stored cells) new → Appends chain elements shape (after_write ms stored cells) new
 appends_alike (bytes order) elements shape ns ms stored new cells alike h = tt
@@ -260,7 +276,7 @@ appends_alike (after_array_codec codec chain) elements shape ns ms stored new ce
     appends_alike chain elements (encoded_shape codec shape) (moved_numbers codec shape ns) (moved_numbers codec shape ms) stored new (gather elements.fill cells (source_places codec shape)) (moved_alike codec shape ns ms alike) h
 appends_alike (then_bytes chain codec) elements shape ns ms stored new cells alike h = tt
 appends_alike (sharded subchunk inner index location) elements shape ns ms stored new cells alike h =
-    λ keeps. (let found = h keeps in (found.0, are_met_alike ns ms (parts_of shape subchunk) found.0 alike found.1, found.2, found.3))
+    λ keeps. (let found = h keeps in (found.0, new_slices_alike inner elements (parts_of shape subchunk) ns ms stored cells found.0 alike found.1, found.2))
 
 takes_alike : (chain : Chain) (type : DataType) (shape ns ms : List ℕ) (stored : Option (List ℕ)) → AreAlike ns ms → most_for_parts chain type shape stored ns ≡ most_for_parts chain type shape stored ms
 takes_alike (bytes order) type shape ns ms stored alike = refl
@@ -274,13 +290,24 @@ takes_alike (sharded subchunk inner index location) type shape ns ms (Some value
 
 -- ---- a box that was turned
 
+room_turned : (codec : ArrayCodec) (chain : Chain) (elements : Elements) (shape : List ℕ) (region moved : Region) (payload turned : Payload) (stored : Option (List ℕ)) → IsMovedBox codec shape region moved → IsTurned codec elements region payload turned
+    → LacksRoom (coded chain elements (encoded_shape codec shape)) (update_of (in_box moved) turned stored) → LacksRoom (coded chain elements (encoded_shape codec shape)) (update_of (listed (moved_of codec shape region)) payload stored)
+room_turned codec chain elements shape region moved payload turned stored b m room =
+    let ns = numbers_asked (encoded_shape codec shape) (in_box moved) in
+    let ms = moved_of codec shape region in
+    let first : List Cell → Type 0 = λ after. PassesLength chain elements (encoded_shape codec shape) (after_write ns stored after) in
+    let second : List Cell → Type 0 = λ after. PassesLength chain elements (encoded_shape codec shape) (after_write ms stored after) in
+    refused_turned codec chain elements shape region moved payload turned stored second b m
+    (put_so (coded chain elements (encoded_shape codec shape)) (update_of (in_box moved) turned stored) first second
+    (λ after is. passes_length_alike chain elements (encoded_shape codec shape) ns ms stored after (box_alike codec shape region moved b) is) room)
+
 refuses_turned : (codec : ArrayCodec) (chain : Chain) (elements : Elements) (shape : List ℕ) (region moved : Region) (payload turned : Payload) (stored : Option (List ℕ)) (after : List Cell) → IsMovedBox codec shape region moved → IsTurned codec elements region payload turned
     → WriteRefuses (coded chain elements (encoded_shape codec shape)) (update_of (in_box moved) turned stored) after → WriteRefuses (coded chain elements (encoded_shape codec shape)) (update_of (listed (moved_of codec shape region)) payload stored) after
 refuses_turned codec chain elements shape region moved payload turned stored after b m h =
     let array = coded chain elements (encoded_shape codec shape) in
     let ns = numbers_asked (encoded_shape codec shape) (in_box moved) in
     let ms = moved_of codec shape region in
-    let whole = CodecRefuses chain elements (encoded_shape codec shape) after in
+    let whole = WholeRefused chain elements (encoded_shape codec shape) after in
     either_by (encodes_in_part chain) (PartsRefused chain elements (encoded_shape codec shape) (after_write ns stored after)) (PartsRefused chain elements (encoded_shape codec shape) (after_write ms stored after))
     (LacksRoom array (update_of (in_box moved) turned stored)) (LacksRoom array (update_of (listed ms) payload stored)) whole whole
     (parts_refused_alike chain elements (encoded_shape codec shape) ns ms stored after (box_alike codec shape region moved b)) (room_turned codec chain elements shape region moved payload turned stored b m) (λ is. is) h
@@ -326,7 +353,14 @@ unwritten_turned codec chain elements shape region moved payload turned stored (
 unwritten_turned codec chain elements shape region moved payload turned stored (Err error.Fit) fill b m h = h
 unwritten_turned codec chain elements shape region moved payload turned stored (Err error.IncompatibleIndexer) fill b m h = absurd (let e = sym b.inside.inside ∙ h in cc)
 unwritten_turned codec chain elements shape region moved payload turned stored (Err error.Size) fill b m (inl large) = inl large
-unwritten_turned codec chain elements shape region moved payload turned stored (Err error.Size) fill b m (inr h) = inr (refused_turned codec chain elements shape region moved payload turned stored _ b m h)
+unwritten_turned codec chain elements shape region moved payload turned stored (Err error.Size) fill b m (inr h) =
+    let array = coded chain elements (encoded_shape codec shape) in
+    let ns = numbers_asked (encoded_shape codec shape) (in_box moved) in
+    let ms = moved_of codec shape region in
+    let first : List Cell → Type 0 = λ after. PassesIndex chain elements (encoded_shape codec shape) after ⊎ PassesLength chain elements (encoded_shape codec shape) (after_write ns stored after) in
+    let second : List Cell → Type 0 = λ after. PassesIndex chain elements (encoded_shape codec shape) after ⊎ PassesLength chain elements (encoded_shape codec shape) (after_write ms stored after) in
+    inr (refused_turned codec chain elements shape region moved payload turned stored second b m
+    (put_so array (update_of (in_box moved) turned stored) first second (λ after why. long_alike chain elements (encoded_shape codec shape) ns ms stored after (box_alike codec shape region moved b) why) h))
 unwritten_turned codec chain elements shape region moved payload turned stored (Err error.Codec) fill b m h =
     let array = coded chain elements (encoded_shape codec shape) in
     let inside = update_of (in_box moved) turned stored in
@@ -350,7 +384,7 @@ writes_turned codec chain elements shape region moved payload turned stored sour
     record {
       parts = on_written r (LeavesParts array inside source.new) (LeavesParts array outside source.new) (leaves_turned codec chain elements shape region moved payload turned stored source.new b m) h.parts;
       cause = unwritten_turned codec chain elements shape region moved payload turned stored r fill b m h.cause;
-      given = λ ranges. gives_by array array inside outside source.before source.after same refl (room_turned codec chain elements shape region moved payload turned stored b m) (h.given ranges);
+      given = gives_by array array inside outside source.ranges source.before source.after same refl refl (room_turned codec chain elements shape region moved payload turned stored b m) h.given;
     }
 
 pub box_writes : {A : Type 0} (codec : ArrayCodec) (chain : Chain) (elements : Elements) (shape : List ℕ) (region moved : Region) (payload turned : Payload) (stored : Option (List ℕ)) (source : SourceWrite) (r : Result A CodecError) → is_value elements.type elements.fill ≡ true

@@ -9,6 +9,7 @@ use Rattle.zarr_codecs_meaning.specs.Decoding.{decoded}
 use Rattle.zarr_codecs_meaning.specs.Laws.{IsLawfulChain, AreCells}
 use Rattle.zarr_codecs_meaning.specs.Payloads.{Payload}
 use Rattle.zarr_codecs_meaning.specs.Refusals.{CodecRefuses, PassesIndex}
+use Rattle.zarr_codecs_meaning.proofs.Making.{encoded_made}
 use Rattle.zarr_codecs_meaning.proofs.Meaning.{laws_of}
 use Rattle.zarr_codecs_meaning.proofs.Representations.{encoded_size}
 use Rattle.zarr_codecs_arrays.specs.declared.array_bytes.ArrayBytes.{ArrayBytes}
@@ -85,6 +86,7 @@ encodes_with chain codecs elements shape made payload (Ok value) cells lawful fi
       record {
         valid = done.valid;
         fit = fit;
+        made = encoded_made whole_chain elements shape cells value.items whole;
         encodes = λ _. whole;
         stands = λ lossless. (laws_of whole_chain lawful).stands elements shape value.items cells fit (inl lossless) are whole;
         sized = encoded_size whole_chain elements shape value.items cells lawful fit are whole;
@@ -111,7 +113,7 @@ refused_with chain codecs elements shape payload e h = (fits_with chain codecs e
 -- what a function of the elements makes is more than any codec promises
 pub encodes_alike : (chain : Chain) (exact : Bool) (elements : Elements) (shape : List ℕ) (payload : Payload) (r : Result (Vec ℕ Global) CodecError) → Encodes (coded chain elements shape) true payload r → Encodes (coded chain elements shape) exact payload r
 encodes_alike chain exact elements shape payload (Ok value) h =
-    (h.0, record { valid = h.1.valid; fit = h.1.fit; encodes = λ _. h.1.encodes refl; stands = h.1.stands; sized = h.1.sized; gapless = h.1.gapless })
+    (h.0, record { valid = h.1.valid; fit = h.1.fit; made = h.1.made; encodes = λ _. h.1.encodes refl; stands = h.1.stands; sized = h.1.sized; gapless = h.1.gapless })
 encodes_alike chain exact elements shape payload (Err error.Fit) h = h
 encodes_alike chain exact elements shape payload (Err error.Codec) h = h
 encodes_alike chain exact elements shape payload (Err error.Size) h = h

@@ -1,5 +1,6 @@
 -- What chains with the caller's codecs tell of themselves.
 use Rattle.std.proofs.Common.{◌≡◌, ◌∙◌, ℕ, List, [], ◌∷◌, length, map, ap, sym, refl, Bool, true, false, ◌&&◌, ◌||◌, inl, inr, None, Result, Ok, Err}
+use Rattle.std.proofs.lemmas.Bool.{or_from}
 use Rattle.zarr_codecs_meaning.specs.Types.{DataType, Elements}
 use Rattle.zarr_codecs_meaning.specs.Chains.{ArrayCodec, ByteCodec, Chain}
 use Rattle.zarr_codecs_meaning.specs.Chains.Chain.{then_bytes}
@@ -61,7 +62,11 @@ tells_with chain codecs type shape known done h =
 -- what is told after the codecs
 pub represents_with : (chain : Chain) (codecs : List ByteCodec) (type : DataType) (shape : List ℕ) (known : BytesRepresentation) (r : Result BytesRepresentation CodecError) → IsRepresented chain type shape known → RepresentsAll codecs (known_size known) r
     → RepresentsArray (with_codecs chain codecs) type shape r
-represents_with chain codecs type shape known (Ok told) done h = record { fit = fits_with chain codecs type shape ∙ done.fit; is = h ∙ (ap (all_represented codecs) done.is ∙ sym (representation_with chain codecs type shape)) }
+represents_with chain codecs type shape known (Ok told) done h = record {
+  fit = fits_with chain codecs type shape ∙ done.fit;
+  is = h.0 ∙ (ap (all_represented codecs) done.is ∙ sym (representation_with chain codecs type shape));
+  short = sym (too_long_with chain codecs type shape) ∙ or_from (tells_too_long chain type shape) (any_too_long codecs (representation_of chain type shape)) done.short (ap (any_too_long codecs) (sym done.is) ∙ h.1);
+}
 represents_with chain codecs type shape known (Err error.Size) done h =
     inr (sym (too_long_with chain codecs type shape) ∙ or_second (tells_too_long chain type shape) (any_too_long codecs (representation_of chain type shape)) (ap (any_too_long codecs) (sym done.is) ∙ h))
 represents_with chain codecs type shape known (Err e) done h = absurd h

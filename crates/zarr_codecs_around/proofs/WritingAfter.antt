@@ -18,7 +18,7 @@ use Rattle.zarr_codecs_meaning.specs.Fits.{array_codec_fits, is_plain}
 use Rattle.zarr_codecs_meaning.specs.Partial.{encodes_in_part}
 use Rattle.zarr_codecs_meaning.specs.Payloads.{Payload}
 use Rattle.zarr_codecs_meaning.specs.Places.{encoded_shape, gather, position_of, source_places, undone_places}
-use Rattle.zarr_codecs_meaning.specs.Refusals.{CodecRefuses, PassesIndex}
+use Rattle.zarr_codecs_meaning.specs.Refusals.{PassesIndex}
 use Rattle.zarr_codecs_meaning.specs.Standing.{ChunkStands}
 use Rattle.zarr_codecs_meaning.specs.Types.{Cell, of_bytes, absent, present, DataType, Elements, is_fill, same_cell}
 use Rattle.zarr_codecs_meaning.proofs.ArrayCodecs.{array_codec_count, values_gathered}
@@ -35,7 +35,7 @@ use Rattle.zarr_codecs_arrays.specs.declared.error.CodecError.TheVariants as err
 use Rattle.zarr_codecs_array_to_array.specs.Moving.{are_places, moved_numbers}
 use Rattle.zarr_codecs_traits.specs.Indexers.{Asked, are_inside, listed, numbers_asked, put}
 use Rattle.zarr_codecs_traits.specs.Arrays.{Coded, Update, coded, update_of}
-use Rattle.zarr_codecs_traits.specs.PartWriting.{AfterPut, ChunkTight, IsEncodedInto, LacksRoom, NotEncodedInto, PartsRefused, PassesLength, StopsWrite, WriteRefuses, after_write, cells_after, cells_shown, only_cell}
+use Rattle.zarr_codecs_traits.specs.PartWriting.{AfterPut, ChunkTight, IsEncodedInto, LacksRoom, NotEncodedInto, PartsRefused, PassesLength, StopsWrite, WholeRefused, WriteRefuses, after_write, cells_after, cells_shown, only_cell}
 use Rattle.zarr_codecs_traits.specs.ShardWrites.{Appends, AppendsParts, IsStoredGapless, LeavesParts, most_for_parts, most_to_write}
 use Rattle.zarr_codecs_traits.specs.Sources.{value_length}
 use Rattle.zarr_codecs_traits.proofs.Damage.{damaged_before, placed_before}
@@ -180,6 +180,13 @@ same_as_itself (present cell) = same_as_itself cell
 fill_moved : (fill : Cell) (cells : List Cell) (places : List ℕ) → is_fill fill cells ≡ true → is_fill fill (gather fill cells places) ≡ true
 fill_moved fill cells places h = values_gathered (λ cell. same_cell cell fill) fill cells places (same_as_itself fill) h
 
+-- cells that are not all fill after they were moved were not before
+not_fill_before : (fill : Cell) (cells : List Cell) (places : List ℕ) → is_fill fill (gather fill cells places) ≡ false → is_fill fill cells ≡ false
+not_fill_before fill cells places some = by_test (is_fill fill cells) refl where
+  by_test : (b : Bool) → is_fill fill cells ≡ b → b ≡ false
+  by_test true all = sym (fill_moved fill cells places all) ∙ some
+  by_test false all = refl
+
 fill_back : (codec : ArrayCodec) (fill : Cell) (shape : List ℕ) (cells : List Cell) → array_codec_fits codec shape ≡ true → length cells ≡ product shape → is_fill fill (gather fill cells (source_places codec shape)) ≡ true → is_fill fill cells ≡ true
 fill_back codec fill shape cells fit whole h =
     ap (is_fill fill) (sym (gathered_back fill cells (source_places codec shape) (product shape) whole (array_codec_covers codec shape fit)))
@@ -262,8 +269,8 @@ written_after codec chain exact elements shape numbers payload cells old new fit
       absent = λ shards lossless before are is filled.
           h.absent shards lossless (gather fill before places) (cells_moved codec elements shape before fit are) (stands_inside codec chain elements shape old before is)
           (ap (is_fill fill) (sym (put_moved codec fill shape numbers cells before fit inside are.whole)) ∙ fill_moved fill (put numbers cells before) places filled);
-      encodes = λ e plain before are is.
-          let found = h.encodes e plain (gather fill before places) (cells_moved codec elements shape before fit are) (decoded_inside codec chain elements shape old before fit is) in
+      encodes = λ plain before are is.
+          let found = h.encodes plain (gather fill before places) (cells_moved codec elements shape before fit are) (decoded_inside codec chain elements shape old before fit is) in
           (found.0, found.1, ap (encoded chain elements (encoded_shape codec shape)) (put_moved codec fill shape numbers cells before fit inside are.whole) ∙ found.2);
       shows = λ lossless.
           let inner = cells_shown chain elements (encoded_shape codec shape) old in
@@ -320,7 +327,11 @@ refused_into codec chain elements shape numbers payload stored inner outer fit i
 room_after : (codec : ArrayCodec) (chain : Chain) (elements : Elements) (shape numbers : List ℕ) (payload : Payload) (stored : Option (List ℕ)) → array_codec_fits codec shape ≡ true → are_places shape numbers ≡ true
     → LacksRoom (coded chain elements (encoded_shape codec shape)) (update_of (listed (moved_numbers codec shape numbers)) payload stored) → LacksRoom (coded (after_array_codec codec chain) elements shape) (update_of (listed numbers) payload stored)
 room_after codec chain elements shape numbers payload stored fit inside room =
-    refused_into codec chain elements shape numbers payload stored (PassesLength chain elements (encoded_shape codec shape) stored) (PassesLength (after_array_codec codec chain) elements shape stored) fit inside (λ after why. why) room
+    refused_into codec chain elements shape numbers payload stored (λ after. PassesLength chain elements (encoded_shape codec shape) (after_write (moved_numbers codec shape numbers) stored after))
+    (λ after. PassesLength (after_array_codec codec chain) elements shape (after_write numbers stored after)) fit inside (λ after why. why) room
+
+whole_after : (codec : ArrayCodec) (chain : Chain) (elements : Elements) (shape : List ℕ) (after : List Cell) → WholeRefused chain elements (encoded_shape codec shape) (gather elements.fill after (source_places codec shape)) → WholeRefused (after_array_codec codec chain) elements shape after
+whole_after codec chain elements shape after h = (λ shards. not_fill_before elements.fill after (source_places codec shape) (h.0 shards), h.1)
 
 -- what a write asks to be encoded is asked where the codec moved it
 refuses_after : (codec : ArrayCodec) (chain : Chain) (elements : Elements) (shape numbers : List ℕ) (payload : Payload) (stored : Option (List ℕ)) (after : List Cell) → array_codec_fits codec shape ≡ true → are_places shape numbers ≡ true
@@ -329,11 +340,12 @@ refuses_after : (codec : ArrayCodec) (chain : Chain) (elements : Elements) (shap
     → WriteRefuses (coded (after_array_codec codec chain) elements shape) (update_of (listed numbers) payload stored) after
 refuses_after codec chain elements shape numbers payload stored after fit inside partly h =
     let parts = PartsRefused (after_array_codec codec chain) elements shape (after_write numbers stored after) in
-    let whole = CodecRefuses (after_array_codec codec chain) elements shape after in
+    let moved = WholeRefused chain elements (encoded_shape codec shape) (gather elements.fill after (source_places codec shape)) in
+    let whole = WholeRefused (after_array_codec codec chain) elements shape after in
     let inner = LacksRoom (coded chain elements (encoded_shape codec shape)) (update_of (listed (moved_numbers codec shape numbers)) payload stored) in
     let outer = LacksRoom (coded (after_array_codec codec chain) elements shape) (update_of (listed numbers) payload stored) in
     subst (λ (b : Bool). MatchBool b (parts ⊎ (outer × whole)) whole) (sym partly)
-    (either_by (encodes_in_part chain) parts parts inner outer whole whole (λ is. is) (room_after codec chain elements shape numbers payload stored fit inside) (λ is. is) h)
+    (either_by (encodes_in_part chain) parts parts inner outer moved whole (λ is. is) (room_after codec chain elements shape numbers payload stored fit inside) (whole_after codec chain elements shape after) h)
 
 -- what is stored is not decoded, where what the codec moved isn't
 undecoded_after : (codec : ArrayCodec) (chain : Chain) (elements : Elements) (shape : List ℕ) (stored : Option (List ℕ)) → chunk_decoded chain elements (encoded_shape codec shape) stored ≡ None → chunk_decoded (after_array_codec codec chain) elements shape stored ≡ None
@@ -355,7 +367,7 @@ unwritten_after codec chain elements shape numbers payload stored (Err error.Fit
 unwritten_after codec chain elements shape numbers payload stored (Err error.IncompatibleIndexer) fit inside partly h = absurd (let e = sym (are_moved codec shape numbers fit inside) ∙ h in cc)
 unwritten_after codec chain elements shape numbers payload stored (Err error.Size) fit inside partly (inl large) = inl (larger_before codec elements.type shape fit large)
 unwritten_after codec chain elements shape numbers payload stored (Err error.Size) fit inside partly (inr h) =
-    inr (refused_into codec chain elements shape numbers payload stored _ (λ after. PassesIndex (after_array_codec codec chain) elements shape after ⊎ PassesLength (after_array_codec codec chain) elements shape stored after) fit inside (λ after why. why) h)
+    inr (refused_into codec chain elements shape numbers payload stored _ (λ after. PassesIndex (after_array_codec codec chain) elements shape after ⊎ PassesLength (after_array_codec codec chain) elements shape (after_write numbers stored after)) fit inside (λ after why. why) h)
 unwritten_after codec chain elements shape numbers payload stored (Err error.Codec) fit inside partly h =
     refused_into codec chain elements shape numbers payload stored (WriteRefuses (coded chain elements (encoded_shape codec shape)) (update_of (listed (moved_numbers codec shape numbers)) payload stored))
     (WriteRefuses (coded (after_array_codec codec chain) elements shape) (update_of (listed numbers) payload stored)) fit inside (λ after why. refuses_after codec chain elements shape numbers payload stored after fit inside partly why) h
@@ -380,16 +392,16 @@ listed_refused chain elements shape asked payload stored refuses inside h = reco
 stopped_by_numbers : (chain : Chain) (elements : Elements) (shape : List ℕ) (asked : Asked) (payload : Payload) (stored : Option (List ℕ)) → are_inside shape asked ≡ true → StopsWrite (coded chain elements shape) (update_of (listed (numbers_asked shape asked)) payload stored)
     → StopsWrite (coded chain elements shape) (update_of asked payload stored)
 stopped_by_numbers chain elements shape asked payload stored inside (inl damage) = inl damage
-stopped_by_numbers chain elements shape asked payload stored inside (inr full) = inr (full.0, listed_refused chain elements shape asked payload stored (PassesLength chain elements shape stored) inside full.1)
+stopped_by_numbers chain elements shape asked payload stored inside (inr full) = inr (full.0, listed_refused chain elements shape asked payload stored (λ after. PassesLength chain elements shape (after_write (numbers_asked shape asked) stored after)) inside full.1)
 
 -- what a write at places asks to be encoded is what one at their numbers asks
 refuses_by_numbers : (chain : Chain) (elements : Elements) (shape : List ℕ) (asked : Asked) (payload : Payload) (stored : Option (List ℕ)) (after : List Cell) → are_inside shape asked ≡ true
     → WriteRefuses (coded chain elements shape) (update_of (listed (numbers_asked shape asked)) payload stored) after → WriteRefuses (coded chain elements shape) (update_of asked payload stored) after
 refuses_by_numbers chain elements shape asked payload stored after inside h =
     let parts = PartsRefused chain elements shape (after_write (numbers_asked shape asked) stored after) in
-    let whole = CodecRefuses chain elements shape after in
+    let whole = WholeRefused chain elements shape after in
     either_by (encodes_in_part chain) parts parts (LacksRoom (coded chain elements shape) (update_of (listed (numbers_asked shape asked)) payload stored)) (LacksRoom (coded chain elements shape) (update_of asked payload stored)) whole whole (λ is. is)
-    (listed_refused chain elements shape asked payload stored (PassesLength chain elements shape stored) inside) (λ is. is) h
+    (listed_refused chain elements shape asked payload stored (λ after. PassesLength chain elements shape (after_write (numbers_asked shape asked) stored after)) inside) (λ is. is) h
 
 -- a fact of the cells that an array has after a put follows from another one
 pub put_so : (array : Coded) (update : Update) (first second : List Cell → Type 0) → ((after : List Cell) → first after → second after) → AfterPut array update first → AfterPut array update second
@@ -466,7 +478,7 @@ writes_after codec chain elements shape numbers payload stored source r fit insi
     record {
       parts = on_written r (LeavesParts inner moved source.new) (LeavesParts outer update source.new) (leaves_after codec chain elements shape numbers payload stored source.new fit inside partly) h.parts;
       cause = unwritten_after codec chain elements shape numbers payload stored r fit inside partly h.cause;
-      given = λ ranges. gives_by inner outer moved update source.before source.after (takes_after codec chain elements shape numbers payload stored partly) refl (room_after codec chain elements shape numbers payload stored fit inside) (h.given ranges);
+      given = gives_by inner outer moved update source.ranges source.before source.after (takes_after codec chain elements shape numbers payload stored partly) (sym partly) refl (room_after codec chain elements shape numbers payload stored fit inside) h.given;
     }
 
 leaves_by_numbers : (chain : Chain) (elements : Elements) (shape : List ℕ) (asked : Asked) (payload : Payload) (stored new : Option (List ℕ)) → are_inside shape asked ≡ true
@@ -480,7 +492,7 @@ leaves_by_numbers chain elements shape asked payload stored new inside h =
       placed = h.placed;
       parts = either_by (encodes_in_part chain) (AppendsParts array numbered new) (AppendsParts array update new) (LacksRoom array numbered) (LacksRoom array update) anew anew
           (listed_refused chain elements shape asked payload stored (λ after. Appends chain elements shape (after_write (numbers_asked shape asked) stored after) new) inside)
-          (listed_refused chain elements shape asked payload stored (PassesLength chain elements shape stored) inside) (λ is. is) h.parts;
+          (listed_refused chain elements shape asked payload stored (λ after. PassesLength chain elements shape (after_write (numbers_asked shape asked) stored after)) inside) (λ is. is) h.parts;
     }
 
 pub writes_by_numbers : {A : Type 0} (chain : Chain) (elements : Elements) (shape : List ℕ) (asked : Asked) (payload : Payload) (stored : Option (List ℕ)) (source : SourceWrite) (r : Result A CodecError) → are_inside shape asked ≡ true
@@ -492,12 +504,12 @@ writes_by_numbers chain elements shape asked payload stored source r inside h =
     record {
       parts = on_written r (LeavesParts array numbered source.new) (LeavesParts array update source.new) (leaves_by_numbers chain elements shape asked payload stored source.new inside) h.parts;
       cause = unwritten_by_numbers chain elements shape asked payload stored r inside h.cause;
-      given = λ ranges. gives_by array array numbered update source.before source.after refl refl (listed_refused chain elements shape asked payload stored (PassesLength chain elements shape stored) inside) (h.given ranges);
+      given = gives_by array array numbered update source.ranges source.before source.after refl refl refl (listed_refused chain elements shape asked payload stored (λ after. PassesLength chain elements shape (after_write (numbers_asked shape asked) stored after)) inside) h.given;
     }
 
 -- a write that is refused before anything is read
 pub unread_writes : {A : Type 0} (array : Coded) (update : Update) (source : SourceWrite) (e : CodecError) → NotEncodedInto {A = A} array update (Err e) → source.after ≡ source.before → WritesPart {A = A} array update source (Err e)
-unread_writes array update source e cause same = record { parts = tt; cause = cause; given = λ ranges. inl (omega (arith, same)) }
+unread_writes array update source e cause same = record { parts = tt; cause = cause; given = inl (omega (arith, same)) }
 
 -- ---- what is encoded in part
 

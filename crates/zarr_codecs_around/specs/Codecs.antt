@@ -29,9 +29,9 @@ abbrev pub any_too_long : List ByteCodec → chains.BytesRepresentation → Bool
 any_too_long [] known = false
 any_too_long (codec ∷ codecs) known = is_too_long (codec.representation known) || any_too_long codecs (codec.representation known)
 
--- what codecs tell of the size of what they make, or that it is too long
+-- what codecs tell of the size of what they make, where none tells too long a size, or that one does
 abbrev pub RepresentsAll : List ByteCodec → chains.BytesRepresentation → Result BytesRepresentation CodecError → Type 0
-RepresentsAll codecs known (Ok told) = known_size told ≡ all_represented codecs known
+RepresentsAll codecs known (Ok told) = (known_size told ≡ all_represented codecs known) × (any_too_long codecs known ≡ false)
 RepresentsAll codecs known (Err error.Size) = IsTrue (any_too_long codecs known)
 RepresentsAll codecs known (Err e) = ⊥
 

@@ -14,7 +14,7 @@ use Rattle.zarr_codecs_arrays.specs.declared.error.CodecError.{CodecError}
 use Rattle.zarr_codecs_arrays.specs.declared.error.CodecError.TheVariants as error
 use Rattle.zarr_codecs_traits.specs.Indexers.{in_box}
 use Rattle.zarr_codecs_traits.specs.Arrays.{coded}
-use Rattle.zarr_codecs_traits.specs.Outcomes.{DecodesPart, IsMoved}
+use Rattle.zarr_codecs_traits.specs.Outcomes.{DecodesPart, IsMoved, moving}
 use Rattle.zarr_codecs_boxes.specs.Regions.{encoded_region}
 use Rattle.zarr_codecs_around.specs.ArrayCodecs.{all_fit}
 use Rattle.zarr_codecs_around.specs.Views.{with_array_codecs}
@@ -59,7 +59,7 @@ pub record IsTurnedThen (codec : ArrayCodec) (elements : Elements) (shape : List
   pub turned : Payload
   pub fit : array_codec_fits codec shape ≡ true
   pub region_is : encoded_region codec shape region ≡ Some next
-  pub moves : IsMoved codec elements region.shape (product region.shape) (source_places codec region.shape) payload turned
+  pub moves : IsMoved (moving codec elements region.shape (product region.shape) (source_places codec region.shape)) payload turned
   pub rest : after (encoded_shape codec shape) next turned
 
 -- the same as `IsBoxAfter`, with the elements that the codecs make of those of the box

@@ -1,5 +1,5 @@
 -- Parts of an array that are read and written by a codec after array codecs.
-use Rattle.std.specs.Prelude.{◌≡◌, ℕ, Bool, List, Option, Result, IsTrue, OnOk}
+use Rattle.std.specs.Prelude.{◌≡◌, ℕ, Bool, List, Option, Result, OnOk}
 use Rattle.zarr_grids_boxes.specs.Subsets.{region_of}
 use Rattle.zarr_codecs_meaning.specs.Chains.{Chain}
 use Rattle.zarr_codecs_meaning.specs.Partial.{encodes_in_part}
@@ -55,4 +55,4 @@ source_write new ranges before after = record { new = new; ranges = ranges; befo
 pub record WritesPart {A : Type 0} (array : Coded) (update : Update) (source : SourceWrite) (result : Result A CodecError) : Type 0 where
   pub parts : OnOk result (LeavesParts array update source.new)
   pub cause : NotEncodedInto array update result
-  pub given : IsTrue source.ranges → GivesWriting array update source.before source.after
+  pub given : GivesWriting array update source.ranges source.before source.after

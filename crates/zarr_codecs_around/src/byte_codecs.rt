@@ -12,6 +12,7 @@ ghost use Rattle.zarr_codecs_around.specs.Views.{with_codecs};
 
 use std::alloc::{AllocError, Global};
 use zarr_codecs_arrays::CodecError;
+use zarr_codecs_traits::bytes_representation::is_too_long;
 use zarr_codecs_traits::{BytesRepresentation, BytesToBytesCodecTraits};
 
 /// What the codecs make of bytes, each of what the one before it made. `Codec` where one refuses.
@@ -65,7 +66,7 @@ pub fn decode_all<B: BytesToBytesCodecTraits>(
 }
 
 /// What is known of the size of what the codecs make, by what is known of the size of what the
-/// first is given. `Size` only where one of them tells a size of 2^63 or more.
+/// first is given. `Size` where one of them tells a size of 2^63 or more.
 pub fn represent_all<B: BytesToBytesCodecTraits>(
     codecs: &[B],
     decoded: BytesRepresentation,
@@ -75,6 +76,9 @@ pub fn represent_all<B: BytesToBytesCodecTraits>(
     let mut known = decoded;
     for codec in codecs {
         known = codec.encoded_representation(known)?;
+        if is_too_long(known) {
+            return Err(CodecError::Size);
+        }
     }
     Ok(known)
 }

@@ -74,7 +74,7 @@ impl<A: InnerCodec, B: BytesToBytesCodecTraits> ArrayToBytesCodecTraits for Then
     ghost use Rattle.std.specs.Prelude.{map};
     ghost use Rattle.zarr_codecs_around.specs.Copies.{then_copied};
     ghost use Rattle.zarr_codecs_around.specs.Pieces.{IsCutBefore, IsCutInside, IsPartCutInside, coded_by};
-    ghost use Rattle.zarr_codecs_around.specs.ThenBytes.{bytes_of, codec_of, then_function, then_lawful, then_meaning};
+    ghost use Rattle.zarr_codecs_around.specs.ThenBytes.{bytes_of, codec_of, then_function, then_lawful, then_meaning, then_plain};
 
     ghost meaning = { then_meaning A.meaning B.meaning };
 
@@ -360,6 +360,8 @@ impl<A: InnerCodec, B: BytesToBytesCodecTraits> ArrayToBytesCodecTraits for Then
     }
 
     ghost lawful = { then_lawful A.meaning A.lawful B.meaning B.lawful };
+
+    ghost plain = { then_plain A.meaning A.is_function A.plain B.meaning };
 }
 
 /// The value of a codec that makes shards, and of bytes codecs after it, which are undone before it

@@ -23,7 +23,7 @@ use Rattle.zarr_codecs_arrays.specs.Outcomes.{Validates}
 use Rattle.zarr_codecs_arrays.specs.declared.array_bytes.ArrayBytes.{ArrayBytes}
 use Rattle.zarr_codecs_arrays.specs.declared.error.CodecError.{CodecError}
 use Rattle.zarr_codecs_arrays.specs.declared.error.CodecError.TheVariants as error
-use Rattle.zarr_codecs_traits.specs.Outcomes.{Moves}
+use Rattle.zarr_codecs_traits.specs.Outcomes.{Moves, moving}
 use Rattle.zarr_codecs_array_to_array.specs.Moving.{are_below, moved_numbers, picked_number, Checks, Gathers}
 
 -- ---- lists of numbers
@@ -170,7 +170,7 @@ gathers_error elements count numbers payload error.Unsupported h = h
 gathers_error elements count numbers payload error.Memory h = elim h [ ]
 gathers_error elements count numbers payload (error.Other s) h = h
 
-moves_at : (codec : ArrayCodec) (elements : Elements) (shape numbers : List ℕ) (payload : Payload) (r : Result ArrayBytes CodecError) → array_codec_fits codec shape ≡ true → are_below (product shape) numbers ≡ true → Gathers elements (product shape) numbers payload r → Moves codec elements shape (product shape) numbers payload r
+moves_at : (codec : ArrayCodec) (elements : Elements) (shape numbers : List ℕ) (payload : Payload) (r : Result ArrayBytes CodecError) → array_codec_fits codec shape ≡ true → are_below (product shape) numbers ≡ true → Gathers elements (product shape) numbers payload r → Moves (moving codec elements shape (product shape) numbers) payload r
 moves_at codec elements shape numbers payload (Ok made) fit all h = let is = h all in record { cells = is.cells; fit = fit; valid = is.valid; lists = is.lists }
 moves_at codec elements shape numbers payload (Err error.Fit) fit all h = elim h [ ]
 moves_at codec elements shape numbers payload (Err error.Damage) fit all h = (fit, h)
@@ -188,7 +188,7 @@ moves_at codec elements shape numbers payload (Err error.Memory) fit all h = tt
 moves_at codec elements shape numbers payload (Err (error.Other s)) fit all h = (fit, h)
 
 -- gathered elements are what an array codec moves
-pub gathers_moves : (codec : ArrayCodec) (elements : Elements) (shape : List ℕ) (count : ℕ) (numbers found : List ℕ) (payload : Payload) (r : Result ArrayBytes CodecError) → array_codec_fits codec shape ≡ true → product shape ≡ count → found ≡ numbers → are_below count numbers ≡ true → Gathers elements count found payload r → Moves codec elements shape count numbers payload r
+pub gathers_moves : (codec : ArrayCodec) (elements : Elements) (shape : List ℕ) (count : ℕ) (numbers found : List ℕ) (payload : Payload) (r : Result ArrayBytes CodecError) → array_codec_fits codec shape ≡ true → product shape ≡ count → found ≡ numbers → are_below count numbers ≡ true → Gathers elements count found payload r → Moves (moving codec elements shape count numbers) payload r
 gathers_moves codec elements shape count numbers found payload r fit e is all h =
-    subst (λ k. Moves codec elements shape k numbers payload r) e
+    subst (λ k. Moves (moving codec elements shape k numbers) payload r) e
     (moves_at codec elements shape numbers payload r fit (ap (λ k. are_below k numbers) e ∙ all) (subst (λ k. Gathers elements k numbers payload r) (sym e) (subst (λ ns. Gathers elements count ns payload r) is h)))

@@ -8,3 +8,4 @@ pub mod Masks
 pub mod Filled
 pub mod Fillings
 pub mod Joined
+pub mod TooMany

@@ -1,6 +1,4 @@
 //! Elements as calls take and give them.
-ghost use Rattle.std.specs.Prelude.{◌⊎◌, ◌^◌, ◌*◌, ◌≤◌, IsTrue, MatchOption};
-
 use crate::counting::{counted, form_error};
 use crate::elements::Elements;
 use crate::error::CodecError;
@@ -24,7 +22,7 @@ pub enum ArrayBytes {
 }
 
 impl ArrayBytes {
-    ghost use Rattle.std.specs.Prelude.{◌≡◌, ◌≢◌, IfOk, IfErr, Some, length, replicate, option_map, unwrap_or, false};
+    ghost use Rattle.std.specs.Prelude.{◌≡◌, ◌≢◌, IfOk, IfErr, Err, Some, length, replicate, option_map, unwrap_or, false};
     ghost use Rattle.zarr_codecs_meaning.specs.Payloads.{cells_in};
     ghost use Rattle.zarr_codecs_meaning.specs.Types as types;
     ghost use Rattle.zarr_codecs_types.specs.Views.{type_of};
@@ -32,8 +30,9 @@ impl ArrayBytes {
     ghost use Rattle.zarr_codecs_arrays.specs.Outcomes.{TestsCount, Validates};
     ghost use Rattle.zarr_codecs_meaning.specs.Types.{IsTooLarge};
 
-    /// As many elements as asked for, each the fill value. `Size` where they would have 2^63 bytes
-    /// or more. Of a type whose elements have no bytes it makes none, and answers `Memory`.
+    /// As many elements as asked for, each the fill value. `Size` where they are 2^63 or more or
+    /// would have as many bytes, before any memory is asked for. Of a type whose elements have no
+    /// bytes it makes none, and answers `Memory`.
     pub fn new_fill_value(
         alloc: Global,
         elements: &Elements,
@@ -44,13 +43,27 @@ impl ArrayBytes {
             ≡ Some (replicate count (elements_of elements.now).fill)) }
         ensures err { IfErr result (λ e. e ≢ CodecError.Memory
             → (e ≡ CodecError.Size) × IsTooLarge (elements_of elements.now).type count) }
+        ensures large { IsTooLarge (elements_of elements.now).type count
+            → result ≡ Err CodecError.Size }
     {
-        let data_type = elements.data_type();
-        if is_too_large(data_type.byte_width(), count) {
+        if elements.is_too_large(count) {
             return Err(CodecError::Size);
         }
+        Ok(ArrayBytes::fill_values(alloc, elements, count as usize)?)
+    }
+
+    /// As many elements as asked for, each the fill value, whatever size they have. `Err` where an
+    /// allocation failed, and for a type whose elements have no bytes: of those it makes none.
+    pub fn fill_values(
+        alloc: Global,
+        elements: &Elements,
+        count: usize,
+    ) -> Result<ArrayBytes, AllocError>
+        ensures { IfOk result (λ a. cells_in (elements_of elements.now).type (payload_of a)
+            ≡ Some (replicate count (elements_of elements.now).fill)) }
+    {
         let fill = elements.fill_value().as_cell();
-        Ok(filled(alloc, data_type, fill, count as usize)?)
+        filled(alloc, elements.data_type(), fill, count)
     }
 
     /// How many elements of a data type these are, or `None` where their form is another type's.
@@ -114,23 +127,5 @@ impl ArrayBytes {
                 Ok(ArrayBytes::Optional(inner, mask.as_slice().to_vec(alloc)?))
             }
         }
-    }
-}
-
-/// Whether so many elements of so many bytes each, where they have one size, have 2^63 bytes or
-/// more, or are as many.
-fn is_too_large(width: Option<usize>, count: u64) -> bool
-    ensures { IsTrue result → (2 ^ 63 ≤ count) ⊎ MatchOption width ⊥ (λ w. 2 ^ 63 ≤ count * w) }
-{
-    const LIMIT: u64 = 0x8000_0000_0000_0000;
-    if count >= LIMIT {
-        return true;
-    }
-    match width {
-        Some(width) => match count.checked_mul(width as u64) {
-            Some(total) => total >= LIMIT,
-            None => true,
-        },
-        None => false,
     }
 }

@@ -9,6 +9,7 @@ pub mod error;
 mod filling;
 mod fills;
 mod fixed;
+mod limits;
 pub mod offsets;
 mod values;
 

@@ -139,7 +139,7 @@ put_over order elements shape asked given content cells value patches h =
       stands = λ lossless before are is. stands before are is;
       tight = λ exact lossless before are is. stands before are is;
       absent = λ no. cc;
-      encodes = λ exact plain before are is. (new, refl, encoded_over order elements shape asked given content cells value patches before h is);
+      encodes = λ plain before are is. (new, refl, encoded_over order elements shape asked given content cells value patches before h is);
       shows = λ lossless.
           shown_elements order elements shape new h.some (h.puts.long value h.long)
           ∙ (ap (map (shown order type)) (h.puts.put value h.long)

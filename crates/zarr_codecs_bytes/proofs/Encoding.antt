@@ -27,6 +27,7 @@ bytes_encodes order elements shape given made cells fill fit valid is =
     record {
       valid = valid;
       fit = fit;
+      made = whole;
       encodes = λ _. whole;
       stands = λ _. whole;
       sized = encoded_size (bytes order) elements shape made cells tt fit are whole;

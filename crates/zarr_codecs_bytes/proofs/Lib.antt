@@ -15,3 +15,4 @@ pub mod ElementWrites
 pub mod ElementsPut
 pub mod AskedRanges
 mod Unstored
+mod ToldSizes

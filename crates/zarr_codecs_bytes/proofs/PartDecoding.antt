@@ -1,10 +1,10 @@
 -- What a part of a value is decoded to: the elements at its places in the other order, where each is a value.
-use Rattle.std.proofs.Common.{◌≡◌, ℕ, zero, suc, ◌+◌, ◌*◌, ◌/◌, ◌^◌, ◌<◌, ◌≤◌, List, [], ◌∷◌, length, get_or, map, take, drop, replicate, ap, ◌∙◌, sym, refl, arith, Option, Some, None, option_and_then, Bool, true, inl, inr, if◌then◌else◌, Result, Ok, Err, Vec, Global, subst, zero-mul}
-use Rattle.std.specs.Prelude.{MatchOption, IfOk, IfErr, ◌≢◌}
+use Rattle.std.proofs.Common.{◌≡◌, ℕ, zero, suc, ◌+◌, ◌*◌, ◌/◌, ◌^◌, ◌<◌, ◌≤◌, List, [], ◌∷◌, length, get_or, map, take, drop, ap, ◌∙◌, sym, refl, arith, Option, Some, None, option_and_then, Bool, true, inl, inr, if◌then◌else◌, Result, Ok, Err, Vec, Global, subst, zero-mul}
+use Rattle.std.specs.Prelude.{IfOk, ◌≢◌}
 use Rattle.std.specs.List.{list_all}
 use Rattle.std.proofs.lemmas.Bool.{eq-eqb, ne_eqb, cases_lt, lt-ltb}
 use Rattle.std.proofs.lemmas.Simd.{map-map}
-use Rattle.std.proofs.lemmas.List.{length-map, get_or_past, drop_all}
+use Rattle.std.proofs.lemmas.List.{get_or_past, drop_all}
 use Rattle.std.proofs.Math.Seq.{take-nil}
 use Rattle.std.proofs.Math.Nat.{mul-div_left, mul-le-mul_right}
 use Rattle.zarr_grids_boxes.specs.Boxes.{Region, product, places, ravel}
@@ -16,20 +16,19 @@ use Rattle.zarr_codecs_meaning.specs.Places.{gather}
 use Rattle.zarr_codecs_meaning.specs.Encoding.{ordered}
 use Rattle.zarr_codecs_meaning.specs.Decoding.{all_there, tested, element_at, is_whole, cell_at, part_decoded}
 use Rattle.zarr_codecs_meaning.specs.Fits.{fits}
-use Rattle.zarr_codecs_meaning.specs.Payloads.{Payload, fixed, fixed_cells, cells_in}
+use Rattle.zarr_codecs_meaning.specs.Payloads.{fixed, fixed_cells}
 use Rattle.zarr_codecs_meaning.proofs.Lists.{some_same}
 use Rattle.zarr_codecs_arrays.specs.Outcomes.{IsValid, Validates}
-use Rattle.zarr_codecs_arrays.specs.declared.array_bytes.ArrayBytes.{ArrayBytes}
 use Rattle.zarr_codecs_arrays.specs.declared.error.CodecError.{CodecError}
 use Rattle.zarr_codecs_arrays.specs.declared.error.CodecError.TheVariants as error
 use Rattle.zarr_codecs_types.specs.Parts.{word_sized}
-use Rattle.zarr_codecs_arrays.specs.Views.{payload_of}
 use Rattle.zarr_codecs_arrays.proofs.Counts.{known_width}
 use Rattle.zarr_codecs_arrays.proofs.FixedCells.{fixed_cells-nil, get_or-fixed_cells, length-fixed_cells}
 use Rattle.zarr_codecs_traits.specs.Indexers.{Asked, in_box, are_inside, shape_has, numbers_asked, numbers_of}
 use Rattle.zarr_codecs_traits.specs.Arrays.{coded}
 use Rattle.zarr_codecs_traits.specs.Outcomes.{DecodesPart, IsPart}
 use Rattle.zarr_codecs_regions.proofs.InsideArray.{inside_product}
+use Rattle.zarr_codecs_regions.proofs.FillValues.{larger_too}
 use Rattle.zarr_codecs_bytes.specs.Orders.{all_ordered}
 use Rattle.zarr_codecs_bytes.specs.Parts.{IsExtracted}
 use Rattle.zarr_codecs_bytes.proofs.Decoding.{tested_all, IsRead, made_counted, refused_value}
@@ -116,32 +115,6 @@ part_not_whole order elements shape value ns other =
     let turned : product shape * width ≡ width * product shape = grind arith in
     ap (λ (b : Bool). if b then all_there (map (cell_at (bytes order) elements shape value) ns) else None) (ne_eqb (length value) (width * product shape) (λ e. other (e ∙ sym turned)))
 
--- ---- sizes
-
--- a box that lies in an array is too large only where the array is
-pub larger_too : (type : DataType) (shape : List ℕ) (region : Region) → length region.shape ≡ length region.start → shape_has shape region ≡ true → IsTooLarge type (product region.shape) → IsTooLarge type (product shape)
-larger_too type shape region l inside (inl many) = inl (let few = inside_product shape region l inside in omega (arith, many, few))
-larger_too type shape region l inside (inr wide) = inr (at_width (byte_width type) wide) where
-  at_width : (o : Option ℕ) → MatchOption o ⊥ (λ width. 2 ^ 63 ≤ product region.shape * width) → MatchOption o ⊥ (λ width. 2 ^ 63 ≤ product shape * width)
-  at_width None h = h
-  at_width (Some width) h = let more : product region.shape * width ≤ product shape * width = mul-le-mul_right width (inside_product shape region l inside) in omega (arith, h, more)
-
--- ---- nothing is stored
-
--- as many fill values as the box has places
-pub filled_part : (chain : Chain) (elements : Elements) (shape : List ℕ) (region : Region) (payload : Payload) → length region.shape ≡ length region.start → shape_has shape region ≡ true → fits chain elements.type shape ≡ true
-    → cells_in elements.type payload ≡ Some (replicate (product region.shape) elements.fill) → IsPart (coded chain elements shape) None (in_box region) payload
-filled_part chain elements shape region payload l inside fit lists = record {
-  cells = replicate (product region.shape) elements.fill;
-  fit = fit;
-  inside = inside;
-  lists = lists;
-  is = ap Some (sym (ap (λ n. replicate n elements.fill) (sym (length-map (places region.start region.shape) (λ place. ravel place shape) ∙ length-places region.start region.shape (sym l))) ∙ each (numbers_of shape region)));
-} where
-  each : (ns : List ℕ) → replicate (length ns) elements.fill ≡ map (λ n. elements.fill) ns
-  each [] = refl
-  each (n ∷ ns) = ap (λ cells. elements.fill ∷ cells) (each ns)
-
 -- ---- the bytes of a part
 
 -- a number that is not below a limit
@@ -193,26 +166,6 @@ pub no_width : (type : DataType) (shape : List ℕ) (region : Region) (size : �
     → length region.shape ≡ length region.start → shape_has shape region ≡ true → product region.shape ≡ 0
 no_width type shape region size one_size h all small l inside =
     no_places (product shape) (bytes_in (components type)) (product region.shape) (inside_product shape region l inside) (omega (arith, all, small)) (too_wide type one_size h)
-
--- ---- where nothing is stored
-
-pub fills_part : (chain : Chain) (elements : Elements) (shape : List ℕ) (region : Region) (count : ℕ) (r : Result ArrayBytes CodecError) → length region.shape ≡ length region.start → shape_has shape region ≡ true → fits chain elements.type shape ≡ true → count ≡ product region.shape
-    → IfOk r (λ made. cells_in elements.type (payload_of made) ≡ Some (replicate count elements.fill)) → IfErr r (λ e. e ≢ error.Memory → (e ≡ error.Size) × IsTooLarge elements.type count) → DecodesPart (coded chain elements shape) None (in_box region) r
-fills_part chain elements shape region count (Ok made) l inside fit many lists large = filled_part chain elements shape region (payload_of made) l inside fit (lists ∙ ap (λ n. Some (replicate n elements.fill)) many)
-fills_part chain elements shape region count (Err error.Memory) l inside fit many lists large = tt
-fills_part chain elements shape region count (Err error.Size) l inside fit many lists large = larger_too elements.type shape region l inside (subst (IsTooLarge elements.type) many (large (λ q. cc)).1)
-fills_part chain elements shape region count (Err error.Source) l inside fit many lists large = tt
-fills_part chain elements shape region count (Err error.Fit) l inside fit many lists large = absurd (let h = (large (λ q. cc)).0 in cc)
-fills_part chain elements shape region count (Err error.IncompatibleIndexer) l inside fit many lists large = absurd (let h = (large (λ q. cc)).0 in cc)
-fills_part chain elements shape region count (Err error.Damage) l inside fit many lists large = absurd (let h = (large (λ q. cc)).0 in cc)
-fills_part chain elements shape region count (Err error.Codec) l inside fit many lists large = absurd (let h = (large (λ q. cc)).0 in cc)
-fills_part chain elements shape region count (Err error.CellOutOfRange) l inside fit many lists large = absurd (let h = (large (λ q. cc)).0 in cc)
-fills_part chain elements shape region count (Err error.InvalidNumberOfElements) l inside fit many lists large = absurd (let h = (large (λ q. cc)).0 in cc)
-fills_part chain elements shape region count (Err error.ExpectedFixedLengthBytes) l inside fit many lists large = absurd (let h = (large (λ q. cc)).0 in cc)
-fills_part chain elements shape region count (Err error.ExpectedVariableLengthBytes) l inside fit many lists large = absurd (let h = (large (λ q. cc)).0 in cc)
-fills_part chain elements shape region count (Err error.ExpectedOptionalBytes) l inside fit many lists large = absurd (let h = (large (λ q. cc)).0 in cc)
-fills_part chain elements shape region count (Err error.Unsupported) l inside fit many lists large = absurd (let h = (large (λ q. cc)).0 in cc)
-fills_part chain elements shape region count (Err (error.Other text)) l inside fit many lists large = absurd (let h = (large (λ q. cc)).0 in cc)
 
 -- ---- a part that is too large
 

@@ -242,7 +242,7 @@ impl Default for BytesCodec {
 }
 
 impl ArrayToBytesCodecTraits for BytesCodec {
-    ghost use Rattle.std.specs.Prelude.{◌≡◌, true};
+    ghost use Rattle.std.specs.Prelude.{◌≡◌, refl, true};
     ghost use Rattle.zarr_codecs_bytes.specs.Views.{bytes_chain};
 
     ghost meaning = { bytes_chain };
@@ -402,6 +402,8 @@ impl ArrayToBytesCodecTraits for BytesCodec {
     }
 
     ghost lawful = { λ codec. tt };
+
+    ghost plain = { λ codec is. refl };
 }
 
 impl WholeValues for BytesCodec {

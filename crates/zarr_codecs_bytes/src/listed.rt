@@ -179,17 +179,13 @@ fn fetch_whole<D: BytesPartialDecoderTraits>(
     }
 }
 
-/// As many fill values as there are numbers. So many that no memory holds them are answered
-/// `Memory`.
+/// As many fill values as there are numbers, whatever size they have.
 pub(crate) fn fill_listed(alloc: Global, part: ListedPart) -> Result<ArrayBytes, CodecError>
     ensures part { (chain : Chain) → fits_listed chain part.entry ≡ true
         → GivesListed chain None part.entry result }
     ensures no_source { (count : ℕ) → refused_after count result ≡ count }
 {
-    match ArrayBytes::new_fill_value(alloc, part.elements, part.numbers.len() as u64) {
-        Ok(bytes) => Ok(bytes),
-        Err(_) => Err(CodecError::Memory),
-    }
+    Ok(ArrayBytes::fill_values(alloc, part.elements, part.numbers.len())?)
 }
 
 /// The elements with these numbers, of their bytes in a value. `Damage` where these are not as many

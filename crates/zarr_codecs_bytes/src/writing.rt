@@ -1,5 +1,5 @@
 //! Elements that are written over others, in the value that a source holds.
-ghost use Rattle.std.specs.Prelude.{◌≡◌, ◌*◌, ◌<◌, ◌≤◌, ◌^◌, ℕ, List, Some, false, true, length, option_map, IfOk, IsTrue, OnErr, OnOk};
+ghost use Rattle.std.specs.Prelude.{◌≡◌, ◌+◌, ◌*◌, ◌<◌, ◌≤◌, ◌^◌, ℕ, List, Some, false, true, length, option_map, IfOk, IsTrue, OnErr, OnOk};
 ghost use Rattle.zarr_grids_boxes.specs.Boxes.{product};
 ghost use Rattle.zarr_codecs_meaning.specs.Types.{Cell, bytes_in, components, is_fixed};
 ghost use Rattle.zarr_codecs_arrays.specs.Views.{elements_of, payload_of};
@@ -8,6 +8,7 @@ ghost use Rattle.zarr_codecs_traits.specs.Patches.{any_too_far, patched, patches
 ghost use Rattle.zarr_codecs_traits.specs.Arrays.{coded_part, update_part};
 ghost use Rattle.zarr_codecs_traits.specs.PartWriting.{IsEncodedInto, NotEncodedInto, WritesOnce};
 ghost use Rattle.zarr_codecs_traits.specs.Sources.{refused_after};
+ghost use Rattle.zarr_codecs_traits.specs.Writes.{most_to_patch};
 ghost use Rattle.zarr_codecs_regions.specs.Whole.{CanBePut};
 ghost use Rattle.zarr_codecs_bytes.specs.Views.{bytes_chain};
 ghost use Rattle.zarr_codecs_bytes.specs.Writing.{AreRangesOf, PutsElements};
@@ -44,8 +45,9 @@ pub(crate) fn write_asked<E: BytesPartialEncoderTraits>(
     ensures refused { E.refused_calls source.new ≡
         refused_after (E.refused_calls source.old) result }
     ensures once { WritesOnce (E.accepted_writes source.old) (E.accepted_writes source.new) result }
-    ensures given { IsTrue (E.is_honest source.old) → IsTrue (E.writes_ranges source.old) →
-        E.given_bytes source.new ≤ E.given_bytes source.old }
+    ensures given { IsTrue (E.is_honest source.old) → E.given_bytes source.new
+        ≤ E.given_bytes source.old
+        + most_to_patch (E.writes_ranges source.old) (E.contents source.old) }
     ensures rewrites { E.rewrites source.old source.new }
 {
     if let Err(error) = test_given(&codec, alloc, &bytes, part) {
@@ -83,8 +85,9 @@ fn write_over<E: BytesPartialEncoderTraits>(
     ensures refused { E.refused_calls source.new ≡
         refused_after (E.refused_calls source.old) result }
     ensures once { WritesOnce (E.accepted_writes source.old) (E.accepted_writes source.new) result }
-    ensures given { IsTrue (E.is_honest source.old) → IsTrue (E.writes_ranges source.old) →
-        E.given_bytes source.new ≤ E.given_bytes source.old }
+    ensures given { IsTrue (E.is_honest source.old) → E.given_bytes source.new
+        ≤ E.given_bytes source.old
+        + most_to_patch (E.writes_ranges source.old) (E.contents source.old) }
     ensures rewrites { E.rewrites source.old source.new }
 {
     match asked_patches(alloc, codec, bytes, part, total) {

@@ -9,6 +9,7 @@ use Rattle.zarr_codecs_meaning.specs.Laws.{IsLawfulChain, AreCells}
 use Rattle.zarr_codecs_meaning.specs.Payloads.{Payload}
 use Rattle.zarr_codecs_meaning.specs.Types.{DataType, bool, integer, custom, string, variable_bytes, optional_of, inner_type, Cell, is_value, Elements, zero_filled}
 use Rattle.zarr_codecs_meaning.proofs.Lists.{some_same}
+use Rattle.zarr_codecs_meaning.proofs.Making.{encoded_made}
 use Rattle.zarr_codecs_meaning.proofs.Meaning.{laws_of}
 use Rattle.zarr_codecs_meaning.proofs.Representations.{encoded_size}
 use Rattle.zarr_codecs_arrays.specs.Outcomes.{IsValid}
@@ -88,6 +89,7 @@ makes_encodes chain elements shape payload cells (Ok value) lawful fill fit plai
       record {
         valid = valid;
         fit = fit;
+        made = encoded_made chain elements shape cells value.items whole;
         encodes = λ _. whole;
         stands = λ lossless. (laws_of chain lawful).stands elements shape value.items cells fit (inl lossless) are whole;
         sized = encoded_size chain elements shape value.items cells lawful fit are whole;

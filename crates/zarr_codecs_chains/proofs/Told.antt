@@ -1,7 +1,7 @@
 -- What chains tell of the sizes of what they make, by the chains inside of them.
 use Rattle.std.proofs.Common.{rules, ◌≡◌, ◌∙◌, ◌⊎◌, ℕ, ◌^◌, ◌<◌, List, [], ◌∷◌, Bool, true, false, ◌||◌, ◌&&◌, ap, sym, subst, refl, inl, inr, arith, Option, Some, None, Result, Ok, Err}
 use Rattle.std.specs.Prelude.{IfErr, IsTrue, unwrap_or}
-use Rattle.std.proofs.lemmas.Bool.{and_left, and_parts, true≢false}
+use Rattle.std.proofs.lemmas.Bool.{and_left, and_parts, or_from, true≢false}
 use Rattle.zarr_grids_boxes.specs.Boxes.{product}
 use Rattle.zarr_codecs_meaning.specs.Types.{DataType, bool, inner_type, IsTooLarge}
 use Rattle.zarr_codecs_meaning.specs.Chains.{ArrayCodec, ByteCodec, Chain}
@@ -12,7 +12,7 @@ use Rattle.zarr_codecs_packbits.specs.Told.{RefusesToldSizes}
 use Rattle.zarr_codecs_meaning.specs.Places.{encoded_shape}
 use Rattle.zarr_codecs_arrays.specs.declared.error.CodecError.{CodecError}
 use Rattle.zarr_codecs_arrays.specs.declared.error.CodecError.TheVariants as error
-use Rattle.zarr_codecs_traits.specs.Representations.{IsRepresented, Represents, RepresentsArray, known_size}
+use Rattle.zarr_codecs_traits.specs.Representations.{IsRepresented, RepresentsArray, RepresentsShort, known_size}
 use Rattle.zarr_codecs_traits.specs.declared.bytes_representation.BytesRepresentation.{BytesRepresentation}
 use Rattle.zarr_codecs_around.specs.ArrayCodecs.{EncodesShapes, all_fit, shape_after}
 use Rattle.zarr_codecs_around.specs.Codecs.{RepresentsAll}
@@ -129,15 +129,27 @@ sections_known mask values type inner shape count one two is same first second =
     second.is ∙ (ap (λ t. representation_of values t (count ∷ [])) (sym other) ∙ ap (λ n. representation_of values (unwrap_or (inner_type type) type) (n ∷ [])) same) in
     ap (λ k. at_most (sum_of_bounds (Some 16 ∷ bound_of k ∷ bound_of (known_size two) ∷ []))) first.is ∙ ap (λ k. at_most (sum_of_bounds (Some 16 ∷ bound_of (representation_of mask bool shape) ∷ bound_of k ∷ []))) known
 
+-- the elements' codecs tell no size too long, whichever way the array of them is written
+values_short : (values : Chain) (type inner : DataType) (shape : List ℕ) (count : ℕ) (two : BytesRepresentation) → inner_type type ≡ Some inner → count ≡ product shape → IsRepresented values inner (count ∷ []) two
+    → tells_too_long values (unwrap_or (inner_type type) type) (product shape ∷ []) ≡ false
+values_short values type inner shape count two is same second =
+    ap (λ t. tells_too_long values t (product shape ∷ [])) (ap (λ o. unwrap_or o type) is) ∙ (ap (λ n. tells_too_long values inner (n ∷ [])) (sym same) ∙ second.short)
+
 pub sections_represent : (mask values : Chain) (type inner : DataType) (shape : List ℕ) (count : ℕ) (one two : BytesRepresentation) (r : Result BytesRepresentation CodecError) → fits (optional mask values) type shape ≡ true → inner_type type ≡ Some inner → count ≡ product shape
-    → IsRepresented mask bool shape one → IsRepresented values inner (count ∷ []) two → Represents (at_most (sum_of_bounds (Some 16 ∷ bound_of (known_size one) ∷ bound_of (known_size two) ∷ []))) r → RepresentsArray (optional mask values) type shape r
-sections_represent mask values type inner shape count one two (Ok known) fit is same first second h = record { fit = fit; is = h ∙ sections_known mask values type inner shape count one two is same first second }
+    → IsRepresented mask bool shape one → IsRepresented values inner (count ∷ []) two → RepresentsShort (at_most (sum_of_bounds (Some 16 ∷ bound_of (known_size one) ∷ bound_of (known_size two) ∷ []))) r → RepresentsArray (optional mask values) type shape r
+sections_represent mask values type inner shape count one two (Ok known) fit is same first second h =
+    let whole = sections_known mask values type inner shape count one two is same first second in
+    record {
+      fit = fit;
+      is = h.0 ∙ whole;
+      short = or_from (tells_too_long mask bool shape) _ first.short (or_from (tells_too_long values (unwrap_or (inner_type type) type) (product shape ∷ [])) _ (values_short values type inner shape count two is same second) (ap is_too_long (sym whole) ∙ h.1));
+    }
 sections_represent mask values type inner shape count one two (Err error.Size) fit is same first second h =
     inr (or_second (tells_too_long mask bool shape) _ (or_second (tells_too_long values (unwrap_or (inner_type type) type) (product shape ∷ [])) _ (ap is_too_long (sym (sections_known mask values type inner shape count one two is same first second)) ∙ h)))
 sections_represent mask values type inner shape count one two (Err e) fit is same first second h = absurd h
 
 pub sections_told : (mask values : Chain) (type inner : DataType) (shape : List ℕ) (count : ℕ) (one two : BytesRepresentation) (r : Result BytesRepresentation CodecError) → inner_type type ≡ Some inner → count ≡ product shape
-    → IsRepresented mask bool shape one → IsRepresented values inner (count ∷ []) two → Represents (at_most (sum_of_bounds (Some 16 ∷ bound_of (known_size one) ∷ bound_of (known_size two) ∷ []))) r → RefusesToldSizes (optional mask values) type shape r
+    → IsRepresented mask bool shape one → IsRepresented values inner (count ∷ []) two → RepresentsShort (at_most (sum_of_bounds (Some 16 ∷ bound_of (known_size one) ∷ bound_of (known_size two) ∷ []))) r → RefusesToldSizes (optional mask values) type shape r
 sections_told mask values type inner shape count one two (Ok known) is same first second h = λ few. tt
 sections_told mask values type inner shape count one two (Err error.Size) is same first second h = λ few size.
     or_second (tells_too_long mask bool shape) _ (or_second (tells_too_long values (unwrap_or (inner_type type) type) (product shape ∷ [])) _ (ap is_too_long (sym (sections_known mask values type inner shape count one two is same first second)) ∙ h))

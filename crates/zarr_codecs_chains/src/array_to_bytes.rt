@@ -97,7 +97,7 @@ impl<B: BytesToBytesCodecTraits> ArrayToBytesCodec<B> {
 }
 
 impl<B: BytesToBytesCodecTraits> ArrayToBytesCodecTraits for ArrayToBytesCodec<B> {
-    ghost use Rattle.std.specs.Prelude.{◌≡◌, IfOk, true};
+    ghost use Rattle.std.specs.Prelude.{◌≡◌, IfOk, refl, true};
     ghost use Rattle.zarr_grids_metadata.specs.ExtensionPoints.{ExtensionPoint};
     ghost use Rattle.zarr_codecs_chains.specs.Names.{WritesAlike};
     ghost use Rattle.zarr_codecs_chains.specs.Views.{codec_chain, codec_lawful, codec_point};
@@ -268,6 +268,8 @@ impl<B: BytesToBytesCodecTraits> ArrayToBytesCodecTraits for ArrayToBytesCodec<B
     }
 
     ghost lawful = { codec_lawful B.meaning B.lawful };
+
+    ghost plain = { λ codec is. refl };
 }
 
 /// The codec that metadata describes, however deep chains nest in it.

@@ -22,7 +22,7 @@ pub(crate) struct BytesChain<B: BytesToBytesCodecTraits> {
 }
 
 impl<B: BytesToBytesCodecTraits> ArrayToBytesCodecTraits for BytesChain<B> {
-    ghost use Rattle.std.specs.Prelude.{◌≡◌, true};
+    ghost use Rattle.std.specs.Prelude.{◌≡◌, refl, true};
     ghost use Rattle.zarr_grids_metadata.specs.ExtensionPoints.{ExtensionPoint};
     ghost use Rattle.zarr_codecs_chains.specs.Names.{WritesAlike};
     ghost use Rattle.zarr_codecs_chains.specs.Views.{bytes_lawful, bytes_meaning, bytes_points};
@@ -190,4 +190,6 @@ impl<B: BytesToBytesCodecTraits> ArrayToBytesCodecTraits for BytesChain<B> {
     }
 
     ghost lawful = { bytes_lawful B.meaning B.lawful };
+
+    ghost plain = { λ chain is. refl };
 }

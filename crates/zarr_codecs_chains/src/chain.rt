@@ -144,7 +144,7 @@ impl<B: BytesToBytesCodecTraits> CodecChain<B> {
 }
 
 impl<B: BytesToBytesCodecTraits> ArrayToBytesCodecTraits for CodecChain<B> {
-    ghost use Rattle.std.specs.Prelude.{◌≡◌, IfOk, true};
+    ghost use Rattle.std.specs.Prelude.{◌≡◌, IfOk, refl, true};
     ghost use Rattle.zarr_grids_metadata.specs.ExtensionPoints.{ExtensionPoint};
     ghost use Rattle.zarr_codecs_chains.specs.Names.{WritesAlike};
     ghost use Rattle.zarr_codecs_chains.specs.Views.{meaning_of, lawful_of, points_of};
@@ -302,4 +302,6 @@ impl<B: BytesToBytesCodecTraits> ArrayToBytesCodecTraits for CodecChain<B> {
     }
 
     ghost lawful = { lawful_of B.meaning B.lawful };
+
+    ghost plain = { λ chain is. refl };
 }

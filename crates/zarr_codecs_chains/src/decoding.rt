@@ -208,10 +208,7 @@ fn none_decoded(
     if !section.is_empty() {
         return Err(CodecError::Damage);
     }
-    match ArrayBytes::new_fill_value(alloc, elements, count) {
-        Ok(made) => Ok(made),
-        Err(_) => Err(CodecError::Memory),
-    }
+    Ok(ArrayBytes::fill_values(alloc, elements, count as usize)?)
 }
 
 /// The elements of an inner array that a chain decodes a section to. `Damage` where there are none.

@@ -3,7 +3,7 @@ ghost use Rattle.std.specs.Prelude.{◌≡◌, [], ◌∷◌, Some, true};
 ghost use Rattle.zarr_codecs_meaning.specs.Fits.{at_most, bound_of, fits, sum_of_bounds, takes_each_shape};
 ghost use Rattle.zarr_codecs_packbits.specs.Told.{RefusesToldSizes};
 ghost use Rattle.zarr_codecs_types.specs.Views.{type_of};
-ghost use Rattle.zarr_codecs_traits.specs.Representations.{Represents, RepresentsArray, known_size};
+ghost use Rattle.zarr_codecs_traits.specs.Representations.{RepresentsArray, RepresentsShort, known_size};
 ghost use Rattle.zarr_codecs_chains.specs.Views.{codec_chain, meaning_of, optional_chain};
 
 use crate::array_to_bytes::ArrayToBytesCodec;
@@ -121,12 +121,12 @@ fn size_by_optional<B: BytesToBytesCodecTraits>(
     }
 }
 
-/// Two lengths, and at most as much as is known of two sections.
+/// Two lengths, and at most as much as is known of two sections. `Size` where that is 2^63 or more.
 fn sum_of_sections(
     mask: BytesRepresentation,
     values: BytesRepresentation,
 ) -> Result<BytesRepresentation, CodecError>
-    ensures { Represents (at_most (sum_of_bounds (Some 16 ∷ bound_of (known_size mask)
+    ensures { RepresentsShort (at_most (sum_of_bounds (Some 16 ∷ bound_of (known_size mask)
         ∷ bound_of (known_size values) ∷ []))) result }
 {
     let Some(first) = bound_of(mask) else {
@@ -138,9 +138,13 @@ fn sum_of_sections(
     let Some(both) = first.checked_add(second) else {
         return Err(CodecError::Size);
     };
-    match both.checked_add(16) {
-        Some(all) => Ok(BytesRepresentation::BoundedSize(all)),
-        None => Err(CodecError::Size),
+    let Some(all) = both.checked_add(16) else {
+        return Err(CodecError::Size);
+    };
+    if all < 1 << 63 {
+        Ok(BytesRepresentation::BoundedSize(all))
+    } else {
+        Err(CodecError::Size)
     }
 }
 

@@ -1,7 +1,6 @@
 //! The elements at the places that are asked for, of a value that is decoded whole.
 ghost use Rattle.std.specs.Prelude.{◌≡◌, ◌≤◌, ◌+◌, ◌^◌, ◌<◌, ℕ, None, Some, true, IsTrue};
 ghost use Rattle.zarr_grids_boxes.specs.Boxes.{product};
-ghost use Rattle.zarr_codecs_meaning.specs.Chains.{Chain};
 ghost use Rattle.zarr_codecs_meaning.specs.Fits.{fits};
 ghost use Rattle.zarr_codecs_arrays.specs.Views.{elements_of};
 ghost use Rattle.zarr_codecs_traits.specs.Indexers.{are_inside, asked_of};
@@ -17,7 +16,7 @@ use crate::decoding::decode_codec;
 use crate::fitting::fits_codec;
 use std::alloc::Global;
 use zarr_codecs_arrays::{ArrayBytes, CodecError};
-use zarr_codecs_regions::{count_asked, take_asked, test_asked};
+use zarr_codecs_regions::{fill_asked, take_asked, test_asked};
 use zarr_codecs_traits::{
     ArrayPart, BytesPartialDecoderTraits, BytesToBytesCodecTraits, WholeArray, read_value,
 };
@@ -110,23 +109,5 @@ fn decode_part<B: BytesToBytesCodecTraits>(
     match decode_codec(codec, alloc, value, array) {
         Ok(bytes) => Ok(take_asked(alloc, &bytes, part.shape, part.indexer, data_type)?),
         Err(error) => Err(error),
-    }
-}
-
-/// As many fill values as places are asked for, where nothing is stored. `Size` where the array has
-/// 2^63 places or more; values that would have 2^63 bytes or more are answered `Memory`.
-fn fill_asked(alloc: Global, part: ArrayPart<'_>) -> Result<ArrayBytes, CodecError>
-    requires inside { are_inside part.shape.now (asked_of part.indexer) ≡ true }
-    ensures part { (chain : Chain) → fits chain (elements_of part.entry.elements.now).type
-        part.entry.shape.now ≡ true → DecodesPart (coded_part chain part.entry) None
-        (asked_of part.entry.indexer) result }
-    ensures no_source { (count : ℕ) → refused_after count result ≡ count }
-{
-    let Some(count) = count_asked(part.shape, part.indexer) else {
-        return Err(CodecError::Size);
-    };
-    match ArrayBytes::new_fill_value(alloc, part.elements, count) {
-        Ok(bytes) => Ok(bytes),
-        Err(_) => Err(CodecError::Memory),
     }
 }

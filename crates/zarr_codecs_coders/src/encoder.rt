@@ -152,10 +152,10 @@ impl<'a, C: ArrayToBytesCodecTraits + Sync, E: BytesPartialEncoderTraits> CodecP
             C.meaning self.old) (update_in E.contents self.old indexer.entry bytes) result }
         ensures refused { E.refused_calls (source_of self.new) ≡
             refused_after (E.refused_calls (source_of self.old)) result }
-        ensures given { IsTrue (E.is_honest (source_of self.old)) →
-            IsTrue (E.writes_ranges (source_of self.old)) → GivesWriting
+        ensures given { IsTrue (E.is_honest (source_of self.old)) → GivesWriting
             (coded_in C.meaning self.old) (update_in E.contents self.old indexer.entry bytes)
-            (E.given_bytes (source_of self.old)) (E.given_bytes (source_of self.new)) }
+            (E.writes_ranges (source_of self.old)) (E.given_bytes (source_of self.old))
+            (E.given_bytes (source_of self.new)) }
         ensures once { WritesOnce (E.accepted_writes (source_of self.old))
             (E.accepted_writes (source_of self.new)) result }
         ensures rewrites { E.rewrites (source_of self.old) (source_of self.new) }

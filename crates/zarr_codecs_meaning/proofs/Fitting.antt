@@ -1,8 +1,8 @@
 -- What it says that a chain with chains inside fits, and what such a chain makes of cells.
-use Rattle.std.proofs.Common.{◌≡◌, ℕ, ◌+◌, ◌-◌, ◌*◌, ◌^◌, ◌<◌, List, [], ◌∷◌, length, ap, ◌∙◌, sym, refl, arith, Option, Some, None, option_map, true, not, ◌&&◌, is_some, length-append}
+use Rattle.std.proofs.Common.{◌≡◌, ℕ, ◌+◌, ◌-◌, ◌*◌, ◌^◌, ◌<◌, List, [], ◌∷◌, length, ap, ◌∙◌, sym, refl, arith, Option, Some, None, option_map, true, false, not, ◌&&◌, is_some, length-append}
 use Rattle.std.specs.Prelude.{nat_lt}
 use Rattle.std.specs.List.{list_all}
-use Rattle.std.proofs.lemmas.Bool.{ltb-true, and_parts}
+use Rattle.std.proofs.lemmas.Bool.{ltb-true, and_parts, not-true}
 use Rattle.std.proofs.lemmas.List.{length-map}
 use Rattle.zarr_grids_boxes.specs.Boxes.{product}
 use Rattle.zarr_codecs_meaning.specs.Types.{uint64, Elements, Cell, is_value, inner_type, zero_filled}
@@ -10,7 +10,7 @@ use Rattle.zarr_codecs_meaning.specs.Chains.{Chain, Location}
 use Rattle.zarr_codecs_meaning.specs.Chains.Chain.{sharded}
 use Rattle.zarr_codecs_meaning.specs.Chains.Location.{at_start, at_end}
 use Rattle.zarr_codecs_meaning.specs.Places.{Part, parts_of, index_shape}
-use Rattle.zarr_codecs_meaning.specs.Fits.{fits, size_of, has_index_size, is_some_below, can_cut}
+use Rattle.zarr_codecs_meaning.specs.Fits.{fits, size_of, has_index_size, is_some_below, can_cut, tells_too_long}
 use Rattle.zarr_codecs_meaning.specs.Encoding.{encoded, Pair, Piece, piece_of, pieces_of, stored_pieces, joined_slices, pairs_from, pair_cells, index_size, base_of, joined, shard_of}
 use Rattle.zarr_codecs_meaning.specs.Laws.{AreCells}
 use Rattle.zarr_codecs_meaning.proofs.Lists.{map_some, if_some, Each, each_passes}
@@ -32,7 +32,14 @@ some_below bound (Some n) h = (n, refl)
 
 -- an index that has a size has one below 2^63
 pub size_is_below : (index : Chain) (shape : List ℕ) → has_index_size index shape ≡ true → is_some_below (2 ^ 63) (size_of index uint64 shape) ≡ true
-size_is_below index shape h = (and_parts (is_some_below (2 ^ 63) (size_of index uint64 shape)) (nat_lt (8 * product shape) (2 ^ 63)) h).0
+size_is_below index shape h = (and_parts (is_some_below (2 ^ 63) (size_of index uint64 shape)) (nat_lt (8 * product shape) (2 ^ 63) && not (tells_too_long index uint64 shape)) h).0
+
+-- and none of its codecs tells too long a size of it
+pub index_is_short : (index : Chain) (shape : List ℕ) → has_index_size index shape ≡ true → tells_too_long index uint64 shape ≡ false
+index_is_short index shape h =
+    let few = nat_lt (8 * product shape) (2 ^ 63) in
+    let short = not (tells_too_long index uint64 shape) in
+    not-true (tells_too_long index uint64 shape) (and_parts few short (and_parts (is_some_below (2 ^ 63) (size_of index uint64 shape)) (few && short) h).1).1
 
 pub fitted : (subchunk : List ℕ) (inner index : Chain) (location : Location) (elements : Elements) (shape : List ℕ) → fits (sharded subchunk inner index location) elements.type shape ≡ true → Fitted subchunk inner index elements shape
 fitted subchunk inner index location elements shape fit =

@@ -29,6 +29,7 @@ pub mod Tight
 pub mod Counts
 pub mod DecodedValues
 pub mod PartReading
+pub mod Making
 pub mod Refusals
 mod WorkedRefusals
 pub mod Chunks

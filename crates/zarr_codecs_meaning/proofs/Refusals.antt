@@ -10,8 +10,9 @@ use Rattle.zarr_codecs_meaning.specs.Chains.{Chain, Location}
 use Rattle.zarr_codecs_meaning.specs.Chains.Chain.{bytes, packbits, vlen, optional, after_array_codec, then_bytes, sharded}
 use Rattle.zarr_codecs_meaning.specs.Places.{gather, encoded_shape, source_places, parts_of, index_shape}
 use Rattle.zarr_codecs_meaning.specs.Encoding.{last_number, number_cells, byte_cells, is_short, with_index, with_mask, unless_none, mask_cell, present_cell, Piece, piece_of, pieces_of, stored_of, stored_pieces, pairs_from, pair_cells, index_size, base_of, joined, joined_slices, shard_of, encoded}
-use Rattle.zarr_codecs_meaning.specs.Refusals.{offsets_of, SomeRefused, PieceRefused, IsMadeOf, SlicesMade, CodecRefuses, PassesIndex}
-use Rattle.zarr_codecs_meaning.proofs.Lists.{bind_some, map_some}
+use Rattle.zarr_codecs_meaning.specs.Making.{IsMadeOf}
+use Rattle.zarr_codecs_meaning.specs.Refusals.{offsets_of, SomeRefused, PieceRefused, CodecRefuses, PassesIndex}
+use Rattle.zarr_codecs_meaning.proofs.Making.{encoded_made, slices_made}
 use Rattle.zarr_codecs_meaning.proofs.Shards.{length-stored, length-pairs_from}
 
 -- ---- what gives nothing
@@ -64,25 +65,6 @@ piece_refused encode R P fill (x ∷ xs) law h =
       | inr some ↦ elim (piece_refused encode R P fill xs law (map_none _ (stored_pieces encode fill xs) some.2)) [ inl r ↦ inl (inr r) | inr p ↦ inr (inr p) ]
     ]
 
--- what is stored of a piece
-piece_made : (t : Bool) (o : Option (List ℕ)) (first : Option (List ℕ)) (made : List ℕ → Type 0) → ((slice : List ℕ) → o ≡ Some slice → made slice) → (if t then Some None else option_map Some o) ≡ Some first
-    → MatchOption first (t ≡ true) (λ slice. (t ≡ false) × made slice)
-piece_made true o None made law h = refl
-piece_made true o (Some slice) made law h = cc
-piece_made false o None made law h = absurd (no_none (map_some Some o None h)) where
-  no_none : (x : List ℕ) × (o ≡ Some x) × (Some x ≡ None) → ⊥
-  no_none found = let e = found.2 in cc
-piece_made false o (Some slice) made law h = let found = map_some Some o (Some slice) h in (refl, law slice (found.1 ∙ found.2))
-
-slices_made : (encode : List ℕ → List Cell → Option (List ℕ)) (made : List ℕ → List Cell → List ℕ → Type 0) (fill : Cell) (pieces : List Piece) (slices : List (Option (List ℕ)))
-    → ((shape : List ℕ) (cells : List Cell) (slice : List ℕ) → encode shape cells ≡ Some slice → made shape cells slice) → stored_pieces encode fill pieces ≡ Some slices → SlicesMade made fill pieces slices
-slices_made encode made fill [] [] law h = tt
-slices_made encode made fill [] (slice ∷ slices) law h = cc
-slices_made encode made fill (x ∷ xs) slices law h =
-    let now = bind_some (λ (first : Option (List ℕ)). option_map (λ (others : List (Option (List ℕ))). first ∷ others) (stored_pieces encode fill xs)) (stored_of fill x.1 (encode x.0 x.1)) slices h in
-    let others = map_some (λ (others : List (Option (List ℕ))). now.0 ∷ others) (stored_pieces encode fill xs) slices now.2 in
-    subst (SlicesMade made fill (x ∷ xs)) others.2 (piece_made (is_fill fill x.1) (encode x.0 x.1) now.0 (made x.0 x.1) (law x.0 x.1) now.1, slices_made encode made fill xs others.0 law others.1)
-
 -- ---- chains
 
 pub encoding_refused : (chain : Chain) (elements : Elements) (shape : List ℕ) (cells : List Cell) → encoded chain elements shape cells ≡ None → CodecRefuses chain elements shape cells ⊎ PassesIndex chain elements shape cells
@@ -132,7 +114,7 @@ encoding_refused (sharded subchunk inner index location) elements shape cells h 
         | inr none ↦ (let pairs = pairs_from base some.0 in
             let long : length pairs ≡ length parts = length-pairs_from some.0 base ∙ (length-stored (encoded inner elements) elements.fill pieces some.0 some.1 ∙ length-map parts (piece_of elements.fill cells)) in
             elim (encoding_refused index (zero_filled uint64) pairs_shape (pair_cells pairs) (map_none (λ (index_bytes : List ℕ). joined location index_bytes (joined_slices some.0)) _ none)) [
-              | inl r ↦ inl (inr (some.0, slices_made (encoded inner elements) (IsMadeOf inner elements) elements.fill pieces some.0 (λ shape cells slice is keeps. inl is) some.1, r))
+              | inl r ↦ inl (inr (some.0, slices_made (encoded inner elements) (IsMadeOf inner elements) elements.fill pieces some.0 (encoded_made inner elements) some.1, r))
               | inr p ↦ inr (inr (inr (pairs, long, p)))
             ])
       ]

@@ -130,9 +130,9 @@ tells_too_long (then_bytes chain codec) type shape = tells_too_long chain type s
 tells_too_long (sharded subchunk inner index location) type shape =
     tells_too_long index uint64 (index_shape shape subchunk) || (list_any (λ (part : Part). tells_too_long inner type part.shape) (parts_of shape subchunk) || is_too_long (representation_of (sharded subchunk inner index location) type shape))
 
--- whether a chain makes as many bytes of each index of a shape, fewer than 2^63, and the index's numbers have fewer than 2^63 bytes too, which are eight for each
+-- whether a chain makes as many bytes of each index of a shape, fewer than 2^63, the index's numbers have fewer than 2^63 bytes too, which are eight for each, and no codec on the way tells 2^63 or more
 abbrev pub has_index_size : Chain → List ℕ → Bool
-has_index_size index shape = is_some_below (2 ^ 63) (size_of index uint64 shape) && nat_lt (8 * product shape) (2 ^ 63)
+has_index_size index shape = is_some_below (2 ^ 63) (size_of index uint64 shape) && (nat_lt (8 * product shape) (2 ^ 63) && not (tells_too_long index uint64 shape))
 
 -- ---- Fits
 

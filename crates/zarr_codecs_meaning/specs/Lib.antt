@@ -12,9 +12,11 @@ pub mod Payloads
 pub mod Partial
 pub mod Chunks
 pub mod ChunkLaws
+pub mod Making
 pub mod Refusals
 pub mod KeptLaws
 pub mod WorkedValues
 pub mod WorkedPlain
 pub mod WorkedShards
+pub mod WorkedMaking
 pub mod WorkedRefusals

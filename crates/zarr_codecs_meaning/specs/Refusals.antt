@@ -1,5 +1,5 @@
 -- Why encoding refuses cells: a caller's codec refuses bytes, or an offset or a length is too large for where it is written.
-use Rattle.std.specs.Prelude.{◌≡◌, ◌⊎◌, ℕ, ◌+◌, ◌-◌, ◌^◌, ◌≤◌, List, [], ◌∷◌, map, length, Option, Some, None, unwrap_or, true, false, flat_map, MatchOption}
+use Rattle.std.specs.Prelude.{◌≡◌, ◌⊎◌, ℕ, ◌+◌, ◌-◌, ◌^◌, ◌≤◌, List, [], ◌∷◌, map, length, Option, Some, None, unwrap_or, false, flat_map}
 use Rattle.std.specs.List.{filter_map}
 use Rattle.zarr_grids_boxes.specs.Boxes.{product}
 use Rattle.zarr_codecs_meaning.specs.Types.{bool, integer, unsigned, uint8, uint64, inner_type, Cell, cell_bytes, is_fill, Elements, zero_filled}
@@ -7,8 +7,7 @@ use Rattle.zarr_codecs_meaning.specs.Chains.{Chain}
 use Rattle.zarr_codecs_meaning.specs.Chains.Chain.{bytes, packbits, vlen, optional, after_array_codec, then_bytes, sharded}
 use Rattle.zarr_codecs_meaning.specs.Places.{gather, encoded_shape, source_places, parts_of, index_shape}
 use Rattle.zarr_codecs_meaning.specs.Encoding.{ends_from, last_number, number_cells, byte_cells, is_short, unless_none, mask_cell, present_cell, Pair, Piece, pieces_of, stored_pieces, joined_slices, pair_cells, pairs_from, index_size, base_of, encoded}
-use Rattle.zarr_codecs_meaning.specs.Fits.{is_lossless}
-use Rattle.zarr_codecs_meaning.specs.Standing.{Stands}
+use Rattle.zarr_codecs_meaning.specs.Making.{IsMadeOf, SlicesMade}
 
 -- where each element of variable length begins, and where the last one ends
 abbrev pub offsets_of : List Cell → List ℕ
@@ -27,22 +26,6 @@ PieceRefused refused fill (piece ∷ pieces) = (is_fill fill piece.1 ≡ false) 
 -- bytes are made whose length eight bytes cannot tell
 abbrev pub IsLong : Option (List ℕ) → Type 0
 IsLong made = (section : List ℕ) × (made ≡ Some section) × (is_short section ≡ false)
-
--- the bytes that a chain makes of cells: what encoding writes, or, of a shard that was written in parts, any that stand for them
-abbrev pub IsMade : Chain → Elements → List ℕ → List Cell → List ℕ → Type 0
-IsMade chain elements shape cells made = (encoded chain elements shape cells ≡ Some made) ⊎ Stands chain elements shape made cells
-
--- the same, where the chain keeps every bit; of another one it says nothing
-abbrev pub IsMadeOf : Chain → Elements → List ℕ → List Cell → List ℕ → Type 0
-IsMadeOf chain elements shape cells made = is_lossless chain elements.type ≡ true → IsMade chain elements shape cells made
-
--- slices are those of pieces: of a piece that is all fill there is none, and each other one has a slice that was made of it
-abbrev pub SlicesMade : (List ℕ → List Cell → List ℕ → Type 0) → Cell → List Piece → List (Option (List ℕ)) → Type 0
-SlicesMade made fill [] [] = Unit {0}
-SlicesMade made fill [] (slice ∷ slices) = ⊥
-SlicesMade made fill (piece ∷ pieces) [] = ⊥
-SlicesMade made fill (piece ∷ pieces) (slice ∷ slices) =
-    MatchOption slice (is_fill fill piece.1 ≡ true) (λ found. (is_fill fill piece.1 ≡ false) × made piece.0 piece.1 found) × SlicesMade made fill pieces slices
 
 -- a caller's codec refuses what encoding the cells asks it to encode: in a shard what a subchunk's chain is asked, or the index of the subchunks' slices in a row; after a chain what this makes of the cells
 abbrev pub CodecRefuses : Chain → Elements → List ℕ → List Cell → Type 0

@@ -2,10 +2,12 @@
 ghost use Rattle.zarr_codecs_meaning.specs.Laws.{EncodedSize, ShardSize, EncodedStands, StandsDecoded, StandingAlike, EncodedTight, TightStands, PartDecoded, PartSelects};
 ghost use Rattle.zarr_codecs_meaning.specs.KeptLaws.{KeptDecoded, KeptCells, KeptTwice, KeptEncoded, KeptLossless};
 ghost use Rattle.zarr_codecs_meaning.specs.ChunkLaws.{ChunkStored, StoredDecoded, StoredPart, StoredOnce};
+ghost use Rattle.zarr_codecs_meaning.specs.Making.{EncodedMade, PlainMade};
 ghost use Rattle.zarr_codecs_meaning.specs.Refusals.{EncodingRefused};
 ghost use Rattle.zarr_codecs_meaning.specs.WorkedValues.{ValueRows, FitRows};
 ghost use Rattle.zarr_codecs_meaning.specs.WorkedPlain.{PlainRows};
 ghost use Rattle.zarr_codecs_meaning.specs.WorkedShards.{ShardRows, StandingRows, DamageRows};
+ghost use Rattle.zarr_codecs_meaning.specs.WorkedMaking.{MakingRows};
 ghost use Rattle.zarr_codecs_meaning.specs.WorkedRefusals.{RefusalRows};
 
 /// Which bytes are values of which types.
@@ -38,6 +40,11 @@ pub fn damage_rows()
     ensures { DamageRows }
 {}
 
+/// Bytes that a chain may make of cells, and bytes that it doesn't make.
+pub fn making_rows()
+    ensures { MakingRows }
+{}
+
 /// Cells that a caller's codec refuses, and cells that it doesn't.
 pub fn refusal_rows()
     ensures { RefusalRows }
@@ -57,6 +64,16 @@ pub fn shard_size()
 /// for where it is written.
 pub fn encoding_refused()
     ensures { EncodingRefused }
+{}
+
+/// What encoding writes is one of the values that a chain may make of cells.
+pub fn encoded_made()
+    ensures { EncodedMade }
+{}
+
+/// A chain without shards makes of cells nothing but what encoding writes.
+pub fn plain_made()
+    ensures { PlainMade }
 {}
 
 /// What a lossless chain encodes stands for the cells.

@@ -1,12 +1,11 @@
 -- The elements at the places that are asked for, of what is decoded.
-use Rattle.std.proofs.Common.{◌≡◌, ℕ, List, [], ◌∷◌, length, map, replicate, ap, ◌∙◌, sym, subst, refl, Some, None, true, Option, ◌+◌, ◌≤◌}
+use Rattle.std.proofs.Common.{◌≡◌, ℕ, List, length, ap, ◌∙◌, subst, refl, Some, None, true, Option, ◌+◌, ◌≤◌}
 use Rattle.std.specs.Prelude.{unwrap_or}
 use Rattle.zarr_grids_boxes.specs.Boxes.{product}
 use Rattle.zarr_codecs_meaning.specs.Types.{Cell, DataType, Elements}
 use Rattle.zarr_codecs_meaning.specs.Chains.{Chain}
 use Rattle.zarr_codecs_meaning.specs.Chains.Chain.{packbits}
 use Rattle.zarr_codecs_meaning.specs.Places.{gather}
-use Rattle.zarr_codecs_meaning.specs.Fits.{fits}
 use Rattle.zarr_codecs_meaning.specs.Payloads.{Payload, cells_in}
 use Rattle.zarr_codecs_meaning.proofs.Counts.{decoded_count}
 use Rattle.zarr_codecs_meaning.proofs.PartReading.{part_read}
@@ -34,21 +33,6 @@ takes_part chain elements shape value asked type payload made inside same d law 
       (law d.cells (record { lists = ap (λ (t : DataType). cells_in t payload) same ∙ d.lists; many = decoded_count chain elements shape value d.cells d.is }));
   is = part_read chain elements shape value d.cells (numbers_asked shape asked) d.fit d.is (asked_places shape asked inside);
 }
-
--- ---- where nothing is stored
-
-pub fills_asked : (chain : Chain) (elements : Elements) (shape : List ℕ) (asked : Asked) (count : ℕ) (payload : Payload) → are_inside shape asked ≡ true → count ≡ length (numbers_asked shape asked) → fits chain elements.type shape ≡ true
-    → cells_in elements.type payload ≡ Some (replicate count elements.fill) → IsPart (coded chain elements shape) None asked payload
-fills_asked chain elements shape asked count payload inside many fit lists = record {
-  cells = replicate count elements.fill;
-  fit = fit;
-  inside = inside;
-  lists = lists;
-  is = ap Some (sym (ap (λ n. replicate n elements.fill) many ∙ each (numbers_asked shape asked)));
-} where
-  each : (ms : List ℕ) → replicate (length ms) elements.fill ≡ map (λ n. elements.fill) ms
-  each [] = refl
-  each (m ∷ ms) = ap (λ cells. elements.fill ∷ cells) (each ms)
 
 -- ---- how many bytes are taken
 

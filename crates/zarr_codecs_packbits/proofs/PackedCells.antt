@@ -127,6 +127,7 @@ packbits_encodes padding first last elements shape given made cells fill fit val
     record {
       valid = valid;
       fit = fit;
+      made = whole;
       encodes = λ _. whole;
       stands = λ _. whole;
       sized = encoded_size chain elements shape made cells tt fit are whole;

@@ -4,6 +4,7 @@ use Rattle.std.specs.List.{flat_map}
 use Rattle.std.specs.declared.alloc.Global.{Global}
 use Rattle.zarr_grids_boxes.specs.Boxes.{product}
 use Rattle.zarr_codecs_meaning.specs.Fits.{bits_in, packed_size}
+use Rattle.zarr_codecs_meaning.specs.Types.{IsTooLarge}
 use Rattle.zarr_codecs_types.specs.Views.{components_of}
 use Rattle.zarr_codecs_arrays.specs.Views.{elements_of}
 use Rattle.zarr_codecs_arrays.specs.declared.array_bytes.ArrayBytes.{ArrayBytes}
@@ -55,8 +56,9 @@ pub record AreAsked (packed : PackedPart) (found : SpanRanges) : Type 0 where
   pub ranges : found.ranges.items ≡ span_ranges (bits_of_packed packed) found.spans.items
   pub few : total_length found.ranges.items ≤ size_of_packed packed
 
--- why a value of so many bytes is not read, of an array that is packed to 2^63 or more: it has fewer, or no memory holds it
-abbrev pub IsUnreadable : ℕ → CodecError → Type 0
-IsUnreadable total error.Damage = total < 2 ^ 63
-IsUnreadable total error.Memory = Unit {0}
-IsUnreadable total e = ⊥
+-- why a value of so many bytes is not read, of an array that is packed to 2^63 or more: it has fewer, or the array's elements are too many
+abbrev pub IsUnreadable : PackedPart → ℕ → CodecError → Type 0
+IsUnreadable packed total error.Damage = total < 2 ^ 63
+IsUnreadable packed total error.Size = IsTooLarge (elements_of packed.part.elements.now).type (product packed.part.shape.now)
+IsUnreadable packed total error.Memory = Unit {0}
+IsUnreadable packed total e = ⊥

@@ -147,7 +147,7 @@ impl Default for PackBitsCodec {
 }
 
 impl ArrayToBytesCodecTraits for PackBitsCodec {
-    ghost use Rattle.std.specs.Prelude.{◌≡◌, true};
+    ghost use Rattle.std.specs.Prelude.{◌≡◌, refl, true};
     ghost use Rattle.zarr_codecs_types.specs.Views.{type_of};
     ghost use Rattle.zarr_codecs_traits.specs.Representations.{RepresentsArray};
     ghost use Rattle.zarr_codecs_packbits.specs.Told.{RefusesToldSizes};
@@ -332,6 +332,8 @@ impl ArrayToBytesCodecTraits for PackBitsCodec {
     }
 
     ghost lawful = { λ codec. tt };
+
+    ghost plain = { λ codec is. refl };
 }
 
 impl WholeValues for PackBitsCodec {

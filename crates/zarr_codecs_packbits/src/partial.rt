@@ -1,11 +1,5 @@
 //! The elements at the places that are asked for.
-ghost use Rattle.std.specs.Prelude.{◌≡◌, ◌≤◌, ◌+◌, ℕ, None, Some, true, IsTrue};
-ghost use Rattle.zarr_codecs_meaning.specs.Chains.{Chain};
-ghost use Rattle.zarr_codecs_meaning.specs.Fits.{fits};
-ghost use Rattle.zarr_codecs_arrays.specs.Views.{elements_of};
-ghost use Rattle.zarr_codecs_traits.specs.Indexers.{are_inside, asked_of};
-ghost use Rattle.zarr_codecs_traits.specs.Arrays.{coded_part};
-ghost use Rattle.zarr_codecs_traits.specs.Outcomes.{DecodesPart};
+ghost use Rattle.std.specs.Prelude.{◌≡◌, ◌≤◌, ◌+◌, ℕ, None, Some, IsTrue};
 ghost use Rattle.zarr_codecs_traits.specs.Sources.{refused_after, value_length};
 ghost use Rattle.zarr_codecs_packbits.specs.Parts.{GivesPacked, most_of_packed};
 
@@ -14,10 +8,8 @@ use crate::part::PackedPart;
 use crate::reading::read_ranges;
 use std::alloc::Global;
 use zarr_codecs_arrays::{ArrayBytes, CodecError};
-use zarr_codecs_regions::{count_asked, take_asked};
-use zarr_codecs_traits::{
-    ArrayPart, ArrayToBytesCodecTraits, BytesPartialDecoderTraits, read_value,
-};
+use zarr_codecs_regions::{fill_asked, take_asked};
+use zarr_codecs_traits::{ArrayToBytesCodecTraits, BytesPartialDecoderTraits, read_value};
 
 /// The elements at the places that are asked for, of the value that a source holds: of the bytes
 /// that they touch where there is no padding byte, else of the whole value. Errors as those of
@@ -65,7 +57,8 @@ pub(crate) fn read_whole<D: BytesPartialDecoderTraits>(
     }
 }
 
-/// The elements at the places that are asked for where nothing is stored: fill values.
+/// The elements at the places that are asked for where nothing is stored: fill values. `Size` where
+/// a box would have 2^63 bytes or more.
 pub(crate) fn fill_packed(alloc: Global, packed: PackedPart) -> Result<ArrayBytes, CodecError>
     ensures part { GivesPacked None packed.entry result }
     ensures no_source { (count : ℕ) → refused_after count result ≡ count }
@@ -88,23 +81,5 @@ fn decode_packed(
     match codec.decode_in_order(alloc, value, part.elements, part.shape) {
         Ok(bytes) => Ok(take_asked(alloc, &bytes, part.shape, part.indexer, data_type)?),
         Err(error) => Err(error),
-    }
-}
-
-/// As many fill values as places are asked for. `Size` where the array has 2^63 places or more;
-/// values that would have 2^63 bytes or more are answered `Memory`.
-fn fill_asked(alloc: Global, part: ArrayPart<'_>) -> Result<ArrayBytes, CodecError>
-    requires inside { are_inside part.shape.now (asked_of part.indexer) ≡ true }
-    ensures part { (chain : Chain) → fits chain (elements_of part.entry.elements.now).type
-        part.entry.shape.now ≡ true → DecodesPart (coded_part chain part.entry) None
-        (asked_of part.entry.indexer) result }
-    ensures no_source { (count : ℕ) → refused_after count result ≡ count }
-{
-    let Some(count) = count_asked(part.shape, part.indexer) else {
-        return Err(CodecError::Size);
-    };
-    match ArrayBytes::new_fill_value(alloc, part.elements, count) {
-        Ok(bytes) => Ok(bytes),
-        Err(_) => Err(CodecError::Memory),
     }
 }

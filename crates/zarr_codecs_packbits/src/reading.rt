@@ -1,5 +1,6 @@
 //! The elements that are asked for of a packed array, of a source that is read in part.
 ghost use Rattle.std.specs.Prelude.{◌≡◌, ◌≤◌, ◌<◌, ◌+◌, ◌^◌, ℕ, List, Err, Some, length, option_map, IfErr, IfNone, IfOk, IfSome, IsTrue, OnOk};
+ghost use Rattle.zarr_grids_boxes.specs.Boxes.{product};
 ghost use Rattle.zarr_codecs_meaning.specs.Chains.Padding.{no_padding_byte};
 ghost use Rattle.zarr_codecs_meaning.specs.Types.{bytes_in};
 ghost use Rattle.zarr_codecs_types.specs.Views.{components_of};
@@ -104,17 +105,21 @@ fn test_size(packed: PackedPart, total: u64) -> Result<(), CodecError>
             }
             Ok(())
         }
-        None => Err(error_of_long(total)),
+        None => Err(error_of_long(packed, count, total)),
     }
 }
 
-/// Why a value of an array that is packed to 2^63 bytes or more is not read: it has fewer, or no
-/// memory holds it.
-fn error_of_long(total: u64) -> CodecError
-    ensures { IsUnreadable total result }
+/// Why a value of an array that is packed to 2^63 bytes or more is not read: it has fewer, or the
+/// array's elements are too many. `Memory` of a caller's type alone whose elements have more bits
+/// than their bytes in memory.
+fn error_of_long(packed: PackedPart, count: u64, total: u64) -> CodecError
+    requires { count ≡ product packed.part.shape.now }
+    ensures { IsUnreadable packed.entry total result }
 {
     if total < 1 << 63 {
         CodecError::Damage
+    } else if packed.part.elements.is_too_large(count) {
+        CodecError::Size
     } else {
         CodecError::Memory
     }

@@ -8,7 +8,7 @@ use Rattle.zarr_grids_boxes.proofs.InBox.{length-places}
 use Rattle.zarr_codecs_traits.specs.Indexers.{in_box, shape_has, numbers_asked}
 use Rattle.zarr_codecs_regions.proofs.InsideArray.{inside_product}
 
-count_of_box : (shape : List ℕ) (region : Region) → length region.shape ≡ length region.start → product region.shape ≡ length (numbers_asked shape (in_box region))
+pub count_of_box : (shape : List ℕ) (region : Region) → length region.shape ≡ length region.start → product region.shape ≡ length (numbers_asked shape (in_box region))
 count_of_box shape region same = sym (length-map (places region.start region.shape) (λ place. ravel place shape) ∙ length-places region.start region.shape (sym same))
 
 pub box_counted : (shape : List ℕ) (region : Region) (found : Option ℕ) → length region.shape ≡ length region.start → SomeIff found (product region.shape < 2 ^ 63) (product region.shape) → IfSome found (λ count. count ≡ length (numbers_asked shape (in_box region)))

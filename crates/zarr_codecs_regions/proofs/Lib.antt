@@ -7,6 +7,7 @@ pub mod Pieces
 pub mod Puts
 pub mod BoxPayloads
 pub mod CountAsked
+pub mod FillValues
 pub mod Shown
 pub mod WholeWrites
 pub mod BoxLines

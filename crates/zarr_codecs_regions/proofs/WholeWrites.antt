@@ -9,10 +9,11 @@ use Rattle.zarr_codecs_meaning.specs.Encoding.{encoded}
 use Rattle.zarr_codecs_meaning.specs.Fits.{fits, is_plain}
 use Rattle.zarr_codecs_meaning.specs.Laws.{IsLawfulChain}
 use Rattle.zarr_codecs_meaning.specs.Payloads.{Payload, cells_in}
-use Rattle.zarr_codecs_meaning.specs.Refusals.{CodecRefuses, PassesIndex}
+use Rattle.zarr_codecs_meaning.specs.Refusals.{PassesIndex}
 use Rattle.zarr_codecs_meaning.specs.Standing.{Stands, Tight}
 use Rattle.zarr_codecs_meaning.specs.Types.{Cell, DataType, Elements, is_fill, is_value}
 use Rattle.zarr_codecs_meaning.proofs.Lists.{some_same}
+use Rattle.zarr_codecs_meaning.proofs.Making.{plain_made}
 use Rattle.zarr_codecs_meaning.proofs.Meaning.{stands_decoded}
 use Rattle.zarr_codecs_meaning.proofs.Shards.{fill_is_replicate}
 use Rattle.zarr_codecs_meaning.proofs.Tight.{encoded_tight}
@@ -22,7 +23,7 @@ use Rattle.zarr_codecs_arrays.specs.declared.error.CodecError.TheVariants as err
 use Rattle.zarr_codecs_traits.specs.Indexers.{Asked, are_inside, numbers_asked, put}
 use Rattle.zarr_codecs_traits.specs.Arrays.{coded, update_of}
 use Rattle.zarr_codecs_traits.specs.Outcomes.{IsEncoded, IsRefused}
-use Rattle.zarr_codecs_traits.specs.PartWriting.{AfterPut, IsEncodedInto, MeetsLost, NotEncodedWhole}
+use Rattle.zarr_codecs_traits.specs.PartWriting.{AfterPut, IsEncodedInto, MeetsLost, NotEncodedWhole, WholeRefused}
 use Rattle.zarr_codecs_traits.specs.ShardWrites.{IsStoredGapless}
 use Rattle.zarr_codecs_traits.specs.Sources.{value_bytes}
 use Rattle.zarr_codecs_traits.proofs.Damage.{decoded_intact}
@@ -69,7 +70,7 @@ written_whole chain exact elements shape asked payload made cells before old val
       absent = λ no lossless others theirs st filled.
           let all : is_fill elements.fill (put ns cells before) ≡ true = ap (λ bs. is_fill elements.fill (put ns cells bs)) (same others (standing_decoded chain elements shape old others h.lawful fit lossless theirs st)) ∙ filled in
           let some = h.kept no in absurd (cc);
-      encodes = λ e plain others theirs st. (value, refl, ap (λ bs. encoded chain elements shape (put ns cells bs)) (sym (same others st)) ∙ h.is.encodes e);
+      encodes = λ plain others theirs st. (value, refl, ap (λ bs. encoded chain elements shape (put ns cells bs)) (sym (same others st)) ∙ plain_made chain elements shape (put ns cells before) value plain h.is.made);
       shows = λ lossless.
           shown_cells chain elements shape (Some value) (put ns cells before) fit (stands_decoded chain elements shape value (put ns cells before) h.lawful fit lossless after (h.is.stands lossless))
           ∙ (map_put one ns cells before ∙ ap (put ns (map one cells)) (sym (shown_cells chain elements shape old before fit h.stored)));
@@ -109,7 +110,7 @@ dropped_whole chain exact elements shape asked payload cells before old h =
           let st = tight_standing chain elements shape old others h.lawful fit lossless theirs t in
           ap (λ bs. is_fill elements.fill (put ns cells bs)) (sym (same others (standing_decoded chain elements shape old others h.lawful fit lossless theirs st))) ∙ h.filled;
       absent = λ no lossless others theirs st filled. refl;
-      encodes = λ e plain others theirs st. (let shards = h.shards in absurd (cc));
+      encodes = λ plain others theirs st. (let shards = h.shards in absurd (cc));
       shows = λ lossless.
           shown_cells chain elements shape None (put ns cells before) fit none
           ∙ (map_put one ns cells before ∙ ap (put ns (map one cells)) (sym (shown_cells chain elements shape old before fit h.stored)));
@@ -145,7 +146,7 @@ abbrev all_fill_of : Elements → Option (List Cell) → Bool
 all_fill_of elements cells = unwrap_or (option_map (is_fill elements.fill) cells) false
 
 pub encoded_whole : (chain : Chain) (exact : Bool) (elements : Elements) (shape : List ℕ) (asked : Asked) (payload array made : Payload) (old : Option (List ℕ)) (result : Result (Option (Vec ℕ Global)) CodecError)
-    → HasUpdated chain elements shape asked payload array made old → EncodesOrDrops chain exact elements shape made result
+    → HasUpdated chain elements shape asked payload array made old → EncodesOrDrops (coded chain elements shape) exact made result
     → IfOk result (λ value. (cells : List Cell) × IsEncodedInto (coded chain elements shape) exact (update_of asked payload old) cells (value_bytes value))
 encoded_whole chain exact elements shape asked payload array made old (Err e) h done = tt
 encoded_whole chain exact elements shape asked payload array made old (Ok None) h done = (
@@ -179,7 +180,7 @@ encoded_whole chain exact elements shape asked payload array made old (Ok (Some 
 
 -- ---- values without gaps
 
-pub kept_gapless : (chain : Chain) (exact : Bool) (elements : Elements) (shape : List ℕ) (made : Payload) (result : Result (Option (Vec ℕ Global)) CodecError) → EncodesOrDrops chain exact elements shape made result
+pub kept_gapless : (chain : Chain) (exact : Bool) (elements : Elements) (shape : List ℕ) (made : Payload) (result : Result (Option (Vec ℕ Global)) CodecError) → EncodesOrDrops (coded chain elements shape) exact made result
     → IfOk result (λ value. IsStoredGapless chain shape (value_bytes value))
 kept_gapless chain exact elements shape made (Err e) done = tt
 kept_gapless chain exact elements shape made (Ok None) done = tt
@@ -229,18 +230,23 @@ not_invalid type payload count cells error.CellOutOfRange valid why =
 not_invalid type payload count cells e valid why = not_miscounted type payload count cells e valid.is why
 
 pub encode_refused : (chain : Chain) (exact : Bool) (elements : Elements) (shape : List ℕ) (asked : Asked) (payload array made : Payload) (old : Option (List ℕ)) (result : Result (Option (Vec ℕ Global)) CodecError)
-    → HasUpdated chain elements shape asked payload array made old → EncodesOrDrops chain exact elements shape made result → NotEncodedWhole (coded chain elements shape) (update_of asked payload old) result
+    → HasUpdated chain elements shape asked payload array made old → EncodesOrDrops (coded chain elements shape) exact made result → NotEncodedWhole (coded chain elements shape) (update_of asked payload old) result
 encode_refused chain exact elements shape asked payload array made old (Ok None) h why = tt
 encode_refused chain exact elements shape asked payload array made old (Ok (Some value)) h why = tt
-encode_refused chain exact elements shape asked payload array made old (Err error.Fit) h why = why
-encode_refused chain exact elements shape asked payload array made old (Err error.Codec) h why = refused_after_update chain elements shape asked payload array made old CodecRefuses why.0 h why.1
-encode_refused chain exact elements shape asked payload array made old (Err error.Size) h (inl large) = inl large
-encode_refused chain exact elements shape asked payload array made old (Err error.Size) h (inr why) =
-    let r = refused_after_update chain elements shape asked payload array made old PassesIndex why.0 h why.1 in inr (record { cells = r.cells; valid = r.valid; fit = r.fit; inside = r.inside; is = inl r.is })
+encode_refused chain exact elements shape asked payload array made old (Err error.Fit) h why = why.encodes
+encode_refused chain exact elements shape asked payload array made old (Err error.Codec) h why =
+    let k = why.encodes in
+    refused_after_update chain elements shape asked payload array made old WholeRefused k.0 h
+    (record { valid = k.1.valid; fit = k.1.fit; is = (λ shards. sym (ap (all_fill_of elements) k.1.valid.is.lists) ∙ why.kept shards, k.1.is) })
+encode_refused chain exact elements shape asked payload array made old (Err error.Size) h why =
+    elim why.encodes as (λ _. NotEncodedWhole {A = Option (Vec ℕ Global)} (coded chain elements shape) (update_of asked payload old) (Err error.Size)) [
+      | inl large ↦ inl large
+      | inr k ↦ (let r = refused_after_update chain elements shape asked payload array made old PassesIndex k.0 h k.1 in inr (record { cells = r.cells; valid = r.valid; fit = r.fit; inside = r.inside; is = inl r.is }))
+    ]
 encode_refused chain exact elements shape asked payload array made old (Err error.Memory) h why = tt
 encode_refused chain exact elements shape asked payload array made old (Err error.Source) h why = tt
 encode_refused chain exact elements shape asked payload array made old (Err e) h why =
-    absurd (not_invalid elements.type made (product shape) (put (numbers_asked shape asked) h.can.cells h.before) e (updated_valid chain elements shape asked payload array made old h) why.1)
+    absurd (not_invalid elements.type made (product shape) (put (numbers_asked shape asked) h.can.cells h.before) e (updated_valid chain elements shape asked payload array made old h) why.encodes.1)
 
 pub update_refused : (A : Type 0) (chain : Chain) (elements : Elements) (type : DataType) (shape : List ℕ) (asked : Asked) (payload array : Payload) (old : Option (List ℕ)) (before : List Cell) (e : CodecError)
     → fits chain elements.type shape ≡ true → IsCounted elements.type array (product shape) before → type ≡ elements.type → Updates type shape asked array payload (Err e) → NotEncodedWhole {A = A} (coded chain elements shape) (update_of asked payload old) (Err e)

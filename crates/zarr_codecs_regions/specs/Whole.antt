@@ -13,7 +13,7 @@ use Rattle.zarr_codecs_arrays.specs.declared.array_bytes.ArrayBytes.{ArrayBytes}
 use Rattle.zarr_codecs_arrays.specs.declared.error.CodecError.{CodecError}
 use Rattle.zarr_codecs_arrays.specs.declared.error.CodecError.TheVariants as error
 use Rattle.zarr_codecs_traits.specs.Indexers.{Asked, are_inside, numbers_asked}
-use Rattle.zarr_codecs_traits.specs.Arrays.{coded}
+use Rattle.zarr_codecs_traits.specs.Arrays.{Coded}
 use Rattle.zarr_codecs_traits.specs.Outcomes.{Encodes}
 
 -- a payload has a valid element for each place that is asked for of an array that the chain suits
@@ -41,13 +41,13 @@ GivesStored chain elements shape stored (Err e) = ⊥
 abbrev pub is_all_fill : Elements → Payload → Bool
 is_all_fill elements payload = unwrap_or (option_map (is_fill elements.fill) (cells_in elements.type payload)) false
 
--- elements are encoded to a value, where the chain has a value for them: a chain with shards has none for fill alone
-pub record EncodesKept (chain : Chain) (exact : Bool) (elements : Elements) (shape : List ℕ) (payload : Payload) (value : Vec ℕ Global) : Type 0 where
-  pub encodes : Encodes (coded chain elements shape) exact payload (Ok value)
-  pub kept : is_plain chain ≡ false → is_all_fill elements payload ≡ false
+-- elements are encoded, or not, where the chain has a value for them: a chain with shards has none for fill alone
+pub record EncodesKept (array : Coded) (exact : Bool) (payload : Payload) (result : Result (Vec ℕ Global) CodecError) : Type 0 where
+  pub encodes : Encodes array exact payload result
+  pub kept : is_plain array.chain ≡ false → is_all_fill array.elements payload ≡ false
 
--- the value that elements of an array are encoded to, or none where a chain with shards has fill alone, or why there is neither
-abbrev pub EncodesOrDrops : Chain → Bool → Elements → List ℕ → Payload → Result (Option (Vec ℕ Global)) CodecError → Type 0
-EncodesOrDrops chain exact elements shape payload (Ok (Some value)) = EncodesKept chain exact elements shape payload value
-EncodesOrDrops chain exact elements shape payload (Ok None) = (is_plain chain ≡ false) × (is_all_fill elements payload ≡ true)
-EncodesOrDrops chain exact elements shape payload (Err e) = Encodes (coded chain elements shape) exact payload (Err e)
+-- the value that elements of an array are encoded to, or none where a chain with shards has fill alone, or why they are not encoded
+abbrev pub EncodesOrDrops : Coded → Bool → Payload → Result (Option (Vec ℕ Global)) CodecError → Type 0
+EncodesOrDrops array exact payload (Ok (Some value)) = EncodesKept array exact payload (Ok value)
+EncodesOrDrops array exact payload (Ok None) = (is_plain array.chain ≡ false) × (is_all_fill array.elements payload ≡ true)
+EncodesOrDrops array exact payload (Err e) = EncodesKept array exact payload (Err e)

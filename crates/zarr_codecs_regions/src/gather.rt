@@ -87,10 +87,7 @@ fn gather_fixed(
     ensures { IfOk result (λ v.
         v.items ≡ flat_map (λ n. take width (drop (n * width) bytes.now)) numbers.now) }
 {
-    let Some(total) = numbers.len().checked_mul(width) else {
-        return Err(AllocError);
-    };
-    let mut gathered = Vec::with_capacity(alloc, total)?;
+    let mut gathered = Vec::with_capacity(alloc, numbers.len().saturating_mul(width))?;
     for number in numbers {
         let Some(element) = element_at(bytes, width, *number) else {
             return Err(AllocError);

@@ -19,11 +19,10 @@ use zarr_codecs_arrays::{ArrayBytes, CodecError};
 use zarr_codecs_traits::{ArrayPart, BytesPartialEncoderTraits, Indexer, read_value};
 use zarr_grids_boxes::walk::count_places;
 
-/// Puts elements in the place of those at the places that are asked for, as
-/// `ArrayToBytesCodecTraits::partial_encode` says, for any codec: the value that the source holds
-/// is read whole, and one call replaces it, or takes it away. `Damage` where that value isn't
-/// decoded, whatever the codec: also one of `bytes`. A shard with a pair outside its data is written
-/// anew if it is decoded.
+/// Puts elements at the places that are asked for, as `ArrayToBytesCodecTraits::partial_encode`
+/// does, for any codec: the value that the source holds is read whole, and one call replaces it, or
+/// takes it away. `Damage` where that value isn't decoded, also one of `bytes`. A shard with a pair
+/// outside its data is written anew if it is decoded.
 pub fn encode_whole<C: WholeValues, E: BytesPartialEncoderTraits>(
     codec: &C,
     alloc: Global,
@@ -172,8 +171,8 @@ fn encode_updated<C: WholeValues>(
     updated: ArrayBytes,
     part: ArrayPart<'_>,
 ) -> Result<Option<Vec<u8>>, CodecError>
-    ensures { EncodesOrDrops (C.meaning codec.now) (C.is_function codec.now)
-        (elements_of part.entry.elements.now) part.entry.shape.now (payload_of updated) result }
+    ensures { EncodesOrDrops (coded_part (C.meaning codec.now) part.entry)
+        (C.is_function codec.now) (payload_of updated) result }
 {
     let (elements, shape) = (part.elements, part.shape);
     if !codec.keeps_fill() && updated.is_fill_value(elements) {

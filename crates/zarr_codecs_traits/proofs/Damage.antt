@@ -13,14 +13,13 @@ use Rattle.zarr_codecs_meaning.specs.Fits.{is_plain}
 use Rattle.zarr_codecs_meaning.specs.Keeping.{arranged}
 use Rattle.zarr_codecs_meaning.specs.Partial.{encodes_in_part}
 use Rattle.zarr_codecs_meaning.specs.Places.{Part, encoded_shape, gather, index_shape, parts_of, place_numbers, position_of, source_places, undone_places}
-use Rattle.zarr_codecs_meaning.specs.Refusals.{CodecRefuses}
 use Rattle.zarr_codecs_meaning.specs.Types.{Cell, Elements, uint64, zero_filled}
 use Rattle.zarr_codecs_meaning.proofs.Lists.{bind_some, map_some, some_same}
 use Rattle.zarr_codecs_arrays.specs.declared.error.CodecError.{CodecError}
 use Rattle.zarr_codecs_arrays.specs.declared.error.CodecError.TheVariants as error
 use Rattle.zarr_codecs_traits.specs.Arrays.{Coded, Update}
 use Rattle.zarr_codecs_traits.specs.Indexers.{numbers_asked}
-use Rattle.zarr_codecs_traits.specs.PartWriting.{IsDamaged, IsLostAmong, IsPlaced, LacksRoom, MeetsLost, NotEncodedInto, NotEncodedWhole, NotPut, NotTaken, PartsRefused, StopsPart, StopsWrite, WriteRefuses, after_write, cells_after}
+use Rattle.zarr_codecs_traits.specs.PartWriting.{IsDamaged, IsLostAmong, IsPlaced, LacksRoom, MeetsLost, NotEncodedInto, NotEncodedWhole, NotPut, NotTaken, PartsRefused, StopsPart, StopsWrite, WholeRefused, WriteRefuses, cells_after, write_of}
 use Rattle.zarr_sharding_changes.specs.Compactions.{compaction, damaged, nothing_to_gain, undone_compaction}
 
 -- ---- a value that is decoded has lost nothing
@@ -134,10 +133,10 @@ not_put less more few many array update (Err e) law wider h = h
 
 pub whole_not_put : {A : Type 0} (array : Coded) (update : Update) (r : Result A CodecError) → encodes_in_part array.chain ≡ false → NotEncodedWhole array update r → NotEncodedInto array update r
 whole_not_put array update r whole h =
-    let refused = λ (after : List Cell). CodecRefuses array.chain array.elements array.shape after in
+    let refused = λ (after : List Cell). WholeRefused array.chain array.elements array.shape after in
     not_put (chunk_decoded array.chain array.elements array.shape update.stored ≡ None) (StopsWrite array update) refused (WriteRefuses array update) array update r
     (λ none. inl (whole_damaged array.chain array.elements array.shape update.stored (numbers_asked array.shape update.asked) whole none))
-    (λ after is. subst (λ (b : Bool). MatchBool b (PartsRefused array.chain array.elements array.shape (after_write (numbers_asked array.shape update.asked) update.stored after) ⊎ (LacksRoom array update × refused after)) (refused after)) (sym whole) is) h
+    (λ after is. subst (λ (b : Bool). MatchBool b (PartsRefused array.chain array.elements array.shape (write_of array update after) ⊎ (LacksRoom array update × refused after)) (refused after)) (sym whole) is) h
 
 pub untaken_not_put : {A : Type 0} (array : Coded) (update : Update) (r : Result A CodecError) → NotTaken array update r → NotEncodedInto array update r
 untaken_not_put array update r h = not_put ⊥ (StopsWrite array update) (λ after. ⊥) (WriteRefuses array update) array update r (λ none. absurd none) (λ after none. absurd none) h
@@ -145,6 +144,6 @@ untaken_not_put array update r h = not_put ⊥ (StopsWrite array update) (λ aft
 -- what isn't written whole, where there was no room for the new slices
 pub unroomed_not_put : {A : Type 0} (array : Coded) (update : Update) (r : Result A CodecError) → encodes_in_part array.chain ≡ true → LacksRoom array update → NotEncodedWhole array update r → NotEncodedInto array update r
 unroomed_not_put array update r partly room h =
-    let refused = λ (after : List Cell). CodecRefuses array.chain array.elements array.shape after in
+    let refused = λ (after : List Cell). WholeRefused array.chain array.elements array.shape after in
     not_put (chunk_decoded array.chain array.elements array.shape update.stored ≡ None) (StopsWrite array update) refused (WriteRefuses array update) array update r (λ none. inr (none, room))
-    (λ after is. subst (λ (b : Bool). MatchBool b (PartsRefused array.chain array.elements array.shape (after_write (numbers_asked array.shape update.asked) update.stored after) ⊎ (LacksRoom array update × refused after)) (refused after)) (sym partly) (inr (room, is))) h
+    (λ after is. subst (λ (b : Bool). MatchBool b (PartsRefused array.chain array.elements array.shape (write_of array update after) ⊎ (LacksRoom array update × refused after)) (refused after)) (sym partly) (inr (room, is))) h

@@ -1,5 +1,5 @@
 -- What writes leave, and what they take: of values that are written whole, and of chains without shards.
-use Rattle.std.proofs.Common.{◌≡◌, ◌≤◌, ℕ, ◌+◌, List, sym, subst, refl, inl, inr, arith, None, Some, Option, Bool, true, false, if◌then◌else◌, Result, Ok, Err}
+use Rattle.std.proofs.Common.{◌≡◌, ◌∙◌, ◌≤◌, ℕ, ◌+◌, List, ap, sym, subst, refl, inl, inr, arith, None, Some, Option, Bool, true, false, if◌then◌else◌, IsTrue, Result, Ok, Err}
 use Rattle.std.specs.Prelude.{◌⊎◌, MatchBool, OnOk}
 use Rattle.zarr_codecs_meaning.specs.Chains.{Chain}
 use Rattle.zarr_codecs_meaning.specs.Chains.Chain.{bytes, packbits, vlen, optional, after_array_codec, then_bytes, sharded}
@@ -11,9 +11,10 @@ use Rattle.zarr_codecs_arrays.specs.declared.error.CodecError.{CodecError}
 use Rattle.zarr_sharding_changes.proofs.Gapless.{plain_gapless}
 use Rattle.zarr_codecs_traits.specs.Arrays.{Coded, Update}
 use Rattle.zarr_codecs_traits.specs.Indexers.{numbers_asked}
-use Rattle.zarr_codecs_traits.specs.PartWriting.{AfterWrite, EncodesInto, IsPlaced, LacksRoom, after_write, cells_after, write_moved}
-use Rattle.zarr_codecs_traits.specs.ShardWrites.{Appends, AppendsParts, GivesWriting, IsStoredGapless, LeavesParts, most_for_parts, most_to_write}
+use Rattle.zarr_codecs_traits.specs.PartWriting.{AfterWrite, EncodesInto, IsPlaced, LacksRoom, cells_after, write_moved, write_of}
+use Rattle.zarr_codecs_traits.specs.ShardWrites.{Appends, AppendsParts, GivesWriting, IsStoredGapless, LeavesParts, most_for_parts, most_patched, most_to_write}
 use Rattle.zarr_codecs_traits.specs.Sources.{value_length}
+use Rattle.zarr_codecs_traits.specs.Writes.{IsGivenByPatching, most_to_patch}
 use Rattle.zarr_codecs_traits.proofs.Damage.{plain_placed, whole_placed}
 
 -- ---- what is left
@@ -57,7 +58,7 @@ plain_leaves true exact array update new is plain made = record {
         valid = made.1.valid;
         fit = made.1.fit;
         inside = made.1.inside;
-        is = plain_appends array.chain array.elements array.shape (after_write (numbers_asked array.shape update.asked) update.stored (cells_after array update.stored (numbers_asked array.shape update.asked) made.0)) new plain;
+        is = plain_appends array.chain array.elements array.shape (write_of array update (cells_after array update.stored (numbers_asked array.shape update.asked) made.0)) new plain;
       }));
 }
 plain_leaves false exact array update new is plain made = record {
@@ -77,16 +78,29 @@ unroomed_parts array update new (Err e) partly placed room gapless = tt
 
 -- ---- what is taken
 
-pub whole_given : (array : Coded) (update : Update) (before after : ℕ) → encodes_in_part array.chain ≡ false → after ≤ before + value_length update.stored → GivesWriting array update before after
-whole_given array update before after whole few =
+pub whole_given : (array : Coded) (update : Update) (ranges : Bool) (before after : ℕ) → encodes_in_part array.chain ≡ false → after ≤ before + value_length update.stored → GivesWriting array update ranges before after
+whole_given array update ranges before after whole few =
     let parts = most_for_parts array.chain array.elements.type array.shape update.stored (numbers_asked array.shape update.asked) in
-    inl (subst (λ (b : Bool). after ≤ before + (if b then parts else value_length update.stored)) (sym whole) few)
+    let same : most_to_write array update ≡ value_length update.stored = ap (λ (b : Bool). if b then parts else value_length update.stored) whole in
+    inl (omega (arith, same, few))
 
-pub nothing_given : (array : Coded) (update : Update) (before after : ℕ) → most_to_write array update ≡ 0 → after ≤ before → GivesWriting array update before after
-nothing_given array update before after none few = inl (omega (arith, none, few))
+-- a chain that is encoded in part has ranges written
+pub parts_given : (array : Coded) (update : Update) (ranges : Bool) (before after : ℕ) → encodes_in_part array.chain ≡ true → after ≤ before + most_to_write array update + most_to_patch ranges update.stored → GivesWriting array update ranges before after
+parts_given array update ranges before after partly few =
+    let patch : most_patched array update ranges ≡ most_to_patch ranges update.stored = ap (λ (b : Bool). if b then most_to_patch ranges update.stored else 0) partly in
+    inl (omega (arith, patch, few))
 
-pub unroomed_given : (array : Coded) (update : Update) (before tried after : ℕ) → LacksRoom array update → tried ≤ before + most_to_write array update → after ≤ tried + value_length update.stored → GivesWriting array update before after
-unroomed_given array update before tried after room first second = inr (room, omega (arith, first, second))
+pub nothing_given : (array : Coded) (update : Update) (ranges : Bool) (before after : ℕ) → encodes_in_part array.chain ≡ true → most_to_write array update ≡ 0 → after ≤ before + most_to_patch ranges update.stored → GivesWriting array update ranges before after
+nothing_given array update ranges before after partly none few = parts_given array update ranges before after partly (omega (arith, none, few))
+
+pub unroomed_given : (array : Coded) (update : Update) (ranges : Bool) (before tried after : ℕ) → LacksRoom array update → tried ≤ before + most_to_write array update → after ≤ tried + value_length update.stored → GivesWriting array update ranges before after
+unroomed_given array update ranges before tried after room first second = inr (room, omega (arith, first, second))
+
+-- what a source gave to write ranges of its value
+pub patched_given : (ranges : Bool) (contents : Option (List ℕ)) (before after : ℕ) → (IsTrue ranges → after ≡ before) → IsGivenByPatching contents before after → after ≤ before + most_to_patch ranges contents
+patched_given true contents before after none once = let same = none refl in omega (arith, same)
+patched_given false contents before after none (inl same) = omega (arith, same)
+patched_given false contents before after none (inr more) = omega (arith, more)
 
 -- ---- other arrays and updates
 
@@ -96,7 +110,9 @@ either_by true parts others room more whole all first second third (inl is) = in
 either_by true parts others room more whole all first second third (inr is) = inr (second is.0, third is.1)
 either_by false parts others room more whole all first second third is = third is
 
-pub gives_by : (inner outer : Coded) (update next : Update) (before after : ℕ) → most_to_write inner update ≡ most_to_write outer next → value_length update.stored ≡ value_length next.stored → (LacksRoom inner update → LacksRoom outer next)
-    → GivesWriting inner update before after → GivesWriting outer next before after
-gives_by inner outer update next before after same long room (inl few) = inl (omega (arith, same, few))
-gives_by inner outer update next before after same long room (inr more) = inr (room more.0, (let few = more.1 in omega (arith, same, long, few)))
+pub gives_by : (inner outer : Coded) (update next : Update) (ranges : Bool) (before after : ℕ) → most_to_write inner update ≡ most_to_write outer next → encodes_in_part inner.chain ≡ encodes_in_part outer.chain → update.stored ≡ next.stored → (LacksRoom inner update → LacksRoom outer next)
+    → GivesWriting inner update ranges before after → GivesWriting outer next ranges before after
+gives_by inner outer update next ranges before after same partly stays room (inl few) =
+    let patch : most_patched inner update ranges ≡ most_patched outer next ranges = ap (λ (b : Bool). if b then most_to_patch ranges update.stored else 0) partly ∙ ap (λ (o : Option (List ℕ)). if encodes_in_part outer.chain then most_to_patch ranges o else 0) stays in
+    inl (omega (arith, same, patch, few))
+gives_by inner outer update next ranges before after same partly stays room (inr more) = let long = ap value_length stays in inr (room more.0, (let few = more.1 in omega (arith, same, long, few)))

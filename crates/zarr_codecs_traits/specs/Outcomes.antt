@@ -11,6 +11,7 @@ use Rattle.zarr_codecs_meaning.specs.Chunks.{chunk_part}
 use Rattle.zarr_codecs_meaning.specs.Decoding.{decoded}
 use Rattle.zarr_codecs_meaning.specs.Encoding.{encoded}
 use Rattle.zarr_codecs_meaning.specs.Fits.{array_codec_fits, fits, is_lossless, is_size_as, representation_of}
+use Rattle.zarr_codecs_meaning.specs.Making.{IsMadeOf}
 use Rattle.zarr_codecs_meaning.specs.Payloads.{Payload, cells_in}
 use Rattle.zarr_codecs_meaning.specs.Places.{encoded_shape, gather, source_places, undone_places}
 use Rattle.zarr_codecs_meaning.specs.Refusals.{CodecRefuses, PassesIndex}
@@ -49,10 +50,11 @@ Creates reads meaning point (Err e) = reads point ≡ None
 
 -- ---- codecs between arrays and bytes
 
--- a value was made of the elements of an array: what encoding them means, where what is made depends on them alone; and one that stands for them, where the chain keeps every bit. It has no gaps
+-- a value was made of the elements of an array: one that the chain may make of them, and what encoding them means, where what is made depends on them alone; it stands for them, where the chain keeps every bit. It has no gaps
 pub record IsEncoded (array : Coded) (exact : Bool) (payload : Payload) (cells : List Cell) (value : List ℕ) : Type 0 where
   pub valid : IsValid array.elements.type payload (product array.shape) cells
   pub fit : fits array.chain array.elements.type array.shape ≡ true
+  pub made : IsMadeOf array.chain array.elements array.shape cells value
   pub encodes : IsTrue exact → encoded array.chain array.elements array.shape cells ≡ Some value
   pub stands : is_lossless array.chain array.elements.type ≡ true → Stands array.chain array.elements array.shape value cells
   pub sized : is_size_as (representation_of array.chain array.elements.type array.shape) (length value) ≡ true
@@ -141,25 +143,37 @@ DecodesShape codec shape (Err error.Fit) = (tells_shapes codec ≡ true) × ((de
 DecodesShape codec shape (Err error.Memory) = Unit {0}
 DecodesShape codec shape (Err e) = ⊥
 
+-- how an array codec moves the elements of an array of this shape: how many they are, and from which places they come, in their new order
+pub record Moving : Type 0 where
+  pub codec : ArrayCodec
+  pub elements : Elements
+  pub shape : List ℕ
+  pub count : ℕ
+  pub numbers : List ℕ
+
+-- the same, put together
+abbrev pub moving : ArrayCodec → Elements → List ℕ → ℕ → List ℕ → Moving
+moving codec elements shape count numbers = record { codec = codec; elements = elements; shape = shape; count = count; numbers = numbers }
+
 -- the elements that stand at these places of others, in this order
-pub record IsMoved (codec : ArrayCodec) (elements : Elements) (shape : List ℕ) (count : ℕ) (numbers : List ℕ) (payload made : Payload) : Type 0 where
+pub record IsMoved (by : Moving) (payload made : Payload) : Type 0 where
   pub cells : List Cell
-  pub fit : array_codec_fits codec shape ≡ true
-  pub valid : IsValid elements.type payload count cells
-  pub lists : cells_in elements.type made ≡ Some (gather elements.fill cells numbers)
+  pub fit : array_codec_fits by.codec by.shape ≡ true
+  pub valid : IsValid by.elements.type payload by.count cells
+  pub lists : cells_in by.elements.type made ≡ Some (gather by.elements.fill cells by.numbers)
 
 -- what an array codec makes of so many elements, or why it makes nothing
-abbrev pub Moves : ArrayCodec → Elements → List ℕ → ℕ → List ℕ → Payload → Result ArrayBytes CodecError → Type 0
-Moves codec elements shape count numbers payload (Ok made) = IsMoved codec elements shape count numbers payload (payload_of made)
-Moves codec elements shape count numbers payload (Err error.Fit) = array_codec_fits codec shape ≡ false
-Moves codec elements shape count numbers payload (Err error.Size) = IsTooLarge elements.type (product shape)
-Moves codec elements shape count numbers payload (Err error.Memory) = Unit {0}
-Moves codec elements shape count numbers payload (Err e) = (array_codec_fits codec shape ≡ true) × IsInvalid elements.type payload count e
+abbrev pub Moves : Moving → Payload → Result ArrayBytes CodecError → Type 0
+Moves by payload (Ok made) = IsMoved by payload (payload_of made)
+Moves by payload (Err error.Fit) = array_codec_fits by.codec by.shape ≡ false
+Moves by payload (Err error.Size) = IsTooLarge by.elements.type (product by.shape)
+Moves by payload (Err error.Memory) = Unit {0}
+Moves by payload (Err e) = (array_codec_fits by.codec by.shape ≡ true) × IsInvalid by.elements.type payload by.count e
 
 -- what an array codec makes of the elements of an array of this shape
 abbrev pub EncodesArray : ArrayCodec → Elements → List ℕ → Payload → Result ArrayBytes CodecError → Type 0
-EncodesArray codec elements shape payload result = Moves codec elements shape (product shape) (source_places codec shape) payload result
+EncodesArray codec elements shape payload result = Moves (moving codec elements shape (product shape) (source_places codec shape)) payload result
 
 -- the elements of an array of this shape of which an array codec made these
 abbrev pub DecodesArray : ArrayCodec → Elements → List ℕ → Payload → Result ArrayBytes CodecError → Type 0
-DecodesArray codec elements shape payload result = Moves codec elements shape (product (encoded_shape codec shape)) (undone_places codec shape) payload result
+DecodesArray codec elements shape payload result = Moves (moving codec elements shape (product (encoded_shape codec shape)) (undone_places codec shape)) payload result

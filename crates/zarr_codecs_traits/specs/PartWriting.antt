@@ -1,21 +1,22 @@
 -- What is stored for an array after some of its elements were replaced.
 use Rattle.std.specs.Prelude.{◌≡◌, ◌⊎◌, ℕ, ◌+◌, ◌^◌, ◌<◌, ◌≤◌, List, [], ◌∷◌, map, length, get_or, Option, Some, None, unwrap_or, option_and_then, Result, Ok, Err, Bool, true, false, nat_lt, IsTrue, MatchBool, MatchOption}
-use Rattle.std.specs.List.{list_any}
+use Rattle.std.specs.List.{list_all, list_any}
 use Rattle.std.specs.Option.{option_map_or}
 use Rattle.zarr_grids_boxes.specs.Boxes.{product}
 use Rattle.zarr_codecs_meaning.specs.Chains.{ArrayCodec, Chain}
 use Rattle.zarr_codecs_meaning.specs.Chains.Chain.{bytes, packbits, vlen, optional, after_array_codec, then_bytes, sharded}
 use Rattle.zarr_codecs_meaning.specs.Chunks.{chunk_decoded, chunk_part}
 use Rattle.zarr_codecs_meaning.specs.Decoding.{decoded, is_absent, opens, pairs_in, slice_at}
-use Rattle.zarr_codecs_meaning.specs.Encoding.{Pair, Piece, base_of, encoded, index_size, joined_slices, pair_cells, pieces_of}
+use Rattle.zarr_codecs_meaning.specs.Encoding.{Pair, base_of, encoded, index_size, pair_cells}
 use Rattle.zarr_codecs_meaning.specs.Fits.{fits, is_lossless, is_plain, is_size_as, representation_of}
 use Rattle.zarr_codecs_meaning.specs.Partial.{encodes_in_part}
 use Rattle.zarr_codecs_meaning.specs.Laws.{AreCells}
 use Rattle.zarr_codecs_meaning.specs.Places.{Part, encoded_shape, gather, index_shape, parts_of, place_numbers, position_of, source_places}
-use Rattle.zarr_codecs_meaning.specs.Refusals.{CodecRefuses, IsMadeOf, PassesIndex}
+use Rattle.zarr_codecs_meaning.specs.Making.{IsMadeOf}
+use Rattle.zarr_codecs_meaning.specs.Refusals.{CodecRefuses, PassesIndex}
 use Rattle.zarr_codecs_meaning.specs.Standing.{ChunkStands, Tight}
 use Rattle.zarr_codecs_meaning.specs.Types.{Cell, Elements, is_fill, uint64, zero_filled, IsTooLarge}
-use Rattle.zarr_sharding_changes.specs.Changes.{Change}
+use Rattle.zarr_sharding_changes.specs.Changes.{Change, appended}
 use Rattle.zarr_sharding_changes.specs.Compactions.{compaction, damaged}
 use Rattle.zarr_sharding_changes.specs.Gapless.{IsGapless}
 use Rattle.zarr_sharding_changes.specs.HeldShards.{HeldShard, held_after, held_in}
@@ -24,6 +25,7 @@ use Rattle.zarr_codecs_arrays.specs.declared.error.CodecError.{CodecError}
 use Rattle.zarr_codecs_arrays.specs.declared.error.CodecError.TheVariants as error
 use Rattle.zarr_codecs_traits.specs.Arrays.{Coded, Update}
 use Rattle.zarr_codecs_traits.specs.Indexers.{are_inside, numbers_asked, put}
+use Rattle.zarr_codecs_traits.specs.Sources.{value_length}
 use Rattle.zarr_codecs_traits.specs.Writes.{accepted_after}
 
 -- ---- what is stored
@@ -94,7 +96,7 @@ pub record IsEncodedInto (array : Coded) (exact : Bool) (update : Update) (cells
   pub absent : is_plain array.chain ≡ false → is_lossless array.chain array.elements.type ≡ true → OnCells array.elements array.shape (λ before. ChunkStands array.chain array.elements array.shape update.stored before
       → is_fill array.elements.fill (put (numbers_asked array.shape update.asked) cells before) ≡ true → new ≡ None)
   -- without shards what is stored is the updated cells encoded, also those of a chain that drops bits; all fill keeps its value
-  pub encodes : IsTrue exact → is_plain array.chain ≡ true → OnCells array.elements array.shape (λ before. chunk_decoded array.chain array.elements array.shape update.stored ≡ Some before
+  pub encodes : is_plain array.chain ≡ true → OnCells array.elements array.shape (λ before. chunk_decoded array.chain array.elements array.shape update.stored ≡ Some before
       → (value : List ℕ) × (new ≡ Some value) × (encoded array.chain array.elements array.shape (put (numbers_asked array.shape update.asked) cells before) ≡ Some value))
   -- each other place is read as before, also where another one can't be
   pub shows : is_lossless array.chain array.elements.type ≡ true → cells_shown array.chain array.elements array.shape new
@@ -106,30 +108,11 @@ EncodesInto array exact update new = (cells : List Cell) × IsEncodedInto array 
 
 -- ---- why nothing is written
 
--- each slice is one that encoding makes of its subchunk; of some subchunks there is none
-abbrev pub AreSlices : (List ℕ → List Cell → List ℕ → Type 0) → List Piece → List (Option (List ℕ)) → Type 0
-AreSlices made [] [] = Unit {0}
-AreSlices made [] (slice ∷ slices) = ⊥
-AreSlices made (piece ∷ pieces) [] = ⊥
-AreSlices made (piece ∷ pieces) (slice ∷ slices) = MatchOption slice (Unit {0}) (made piece.0 piece.1) × AreSlices made pieces slices
-
--- a slice that a write may make of a subchunk's cells: where the chain keeps every bit, it was made of them; it has a size that the chain tells, and no gaps
+-- a slice that a write may make of a subchunk's cells: one that its chain may make of them, with no gaps, and as long as the chain tells
 pub record IsNewSlice (chain : Chain) (elements : Elements) (shape : List ℕ) (cells : List Cell) (slice : List ℕ) : Type 0 where
   pub made : IsMadeOf chain elements shape cells slice
   pub sized : is_size_as (representation_of chain elements.type shape) (length slice) ≡ true
   pub gapless : IsGapless chain shape slice
-
--- new slices for the subchunks' cells, put behind what is stored, or behind an index where nothing is, would make 2^63 bytes or more
-abbrev pub PassesLength : Chain → Elements → List ℕ → Option (List ℕ) → List Cell → Type 0
-PassesLength (bytes order) elements shape stored cells = ⊥
-PassesLength (packbits padding first last) elements shape stored cells = ⊥
-PassesLength (vlen index «data» width location) elements shape stored cells = ⊥
-PassesLength (optional mask values) elements shape stored cells = ⊥
-PassesLength (after_array_codec codec chain) elements shape stored cells = PassesLength chain elements (encoded_shape codec shape) stored (gather elements.fill cells (source_places codec shape))
-PassesLength (then_bytes chain codec) elements shape stored cells = ⊥
-PassesLength (sharded subchunk inner index location) elements shape stored cells =
-    (slices : List (Option (List ℕ))) × AreSlices (IsNewSlice inner elements) (pieces_of elements.fill cells (parts_of shape subchunk)) slices
-    × (2 ^ 63 ≤ option_map_or length stored (index_size index (index_shape shape subchunk)) + length (joined_slices slices))
 
 -- a write at the places with these numbers, into what is stored: the cells that the array then has
 pub record AfterWrite : Type 0 where
@@ -169,13 +152,31 @@ abbrev pub NewSlicesMade : (List ℕ → List Cell → List ℕ → Type 0) → 
 NewSlicesMade made fill cells parts changes = (i : ℕ) → i < length changes → let piece = gather fill cells (part_at parts changes i).places in
     MatchOption (get_or changes i (0, None)).1 (is_fill fill piece ≡ true) (λ slice. (is_fill fill piece ≡ false) × made (part_at parts changes i).shape piece slice)
 
+-- what a write changes in a shard: each subchunk that one of its places lies in has a new slice, made of its cells, or none where they are all fill
+pub record AreNewSlices (inner : Chain) (elements : Elements) (parts : List Part) (write : AfterWrite) (changes : List Change) : Type 0 where
+  pub met : AreMet write.numbers parts changes
+  pub made : NewSlicesMade (IsNewSlice inner elements) elements.fill write.cells parts changes
+
+-- what is stored has 2^63 bytes or more; or it would have so many with the new slices of the subchunks that a write meets put behind it, or behind an index where nothing is stored
+abbrev pub PassesLength : Chain → Elements → List ℕ → AfterWrite → Type 0
+PassesLength (bytes order) elements shape write = ⊥
+PassesLength (packbits padding first last) elements shape write = ⊥
+PassesLength (vlen index «data» width location) elements shape write = ⊥
+PassesLength (optional mask values) elements shape write = ⊥
+PassesLength (after_array_codec codec chain) elements shape write = PassesLength chain elements (encoded_shape codec shape) (write_moved codec elements.fill shape write)
+PassesLength (then_bytes chain codec) elements shape write = ⊥
+PassesLength (sharded subchunk inner index location) elements shape write =
+    (2 ^ 63 ≤ value_length write.stored)
+    ⊎ ((changes : List Change) × AreNewSlices inner elements (parts_of shape subchunk) write changes
+    × (2 ^ 63 ≤ option_map_or length write.stored (index_size index (index_shape shape subchunk)) + length (appended changes)))
+
 -- a subchunk that one of the places lies in, and that isn't all fill then, is refused
 abbrev pub MetRefused : (List ℕ → List Cell → Type 0) → Cell → AfterWrite → List Part → Type 0
 MetRefused refused fill write [] = ⊥
 MetRefused refused fill write (part ∷ parts) =
     ((is_met write.numbers part ≡ true) × (is_fill fill (gather fill write.cells part.places) ≡ false) × refused part.shape (gather fill write.cells part.places)) ⊎ MetRefused refused fill write parts
 
--- a caller's codec refuses what a write asks it to encode of the parts that it meets: in a shard what a met subchunk's chain is asked, or the index of the pairs after the met subchunks got their new slices behind the data part
+-- a caller's codec refuses what a write asks it to encode of the parts that it meets: in a shard what a met subchunk's chain is asked, or, if a subchunk is present after the met ones got their new slices behind the data part, the index of the pairs then
 abbrev pub PartsRefused : Chain → Elements → List ℕ → AfterWrite → Type 0
 PartsRefused (bytes order) elements shape write = ⊥
 PartsRefused (packbits padding first last) elements shape write = ⊥
@@ -188,8 +189,12 @@ PartsRefused (sharded subchunk inner index location) elements shape write =
     let pairs_shape = index_shape shape subchunk in
     let base = base_of location (index_size index pairs_shape) in
     MetRefused (CodecRefuses inner elements) elements.fill write parts
-    ⊎ ((held : HeldShard) × (changes : List Change) × (held_in subchunk index location shape write.stored ≡ Some held) × AreMet write.numbers parts changes
-    × NewSlicesMade (IsNewSlice inner elements) elements.fill write.cells parts changes × CodecRefuses index (zero_filled uint64) pairs_shape (pair_cells (held_after base changes held).pairs))
+    ⊎ ((held : HeldShard) × (changes : List Change) × (held_in subchunk index location shape write.stored ≡ Some held) × AreNewSlices inner elements parts write changes
+    × (list_all is_absent (held_after base changes held).pairs ≡ false) × CodecRefuses index (zero_filled uint64) pairs_shape (pair_cells (held_after base changes held).pairs))
+
+-- a caller's codec refuses what encoding all of an array's cells asks it to encode, if there is a value of them: a shard that is all fill is taken away
+abbrev pub WholeRefused : Chain → Elements → List ℕ → List Cell → Type 0
+WholeRefused chain elements shape cells = (is_plain chain ≡ false → is_fill elements.fill cells ≡ false) × CodecRefuses chain elements shape cells
 
 -- valid elements for places of an array that the chain suits, and a fact of the cells that the array has after they were put there
 pub record AfterPut (array : Coded) (update : Update) (fact : List Cell → Type 0) : Type 0 where
@@ -207,9 +212,13 @@ StopsPart chain elements shape value numbers = (opens chain elements shape value
 abbrev pub IsDamaged : Chain → Elements → List ℕ → Option (List ℕ) → List ℕ → Type 0
 IsDamaged chain elements shape stored numbers = MatchOption stored ⊥ (λ value. MatchBool (encodes_in_part chain) (StopsPart chain elements shape value numbers) (decoded chain elements shape value ≡ None))
 
--- the new slices, put behind what is stored, would make 2^63 bytes or more
+-- the write that an update is, by the cells that the array has then
+abbrev pub write_of : Coded → Update → List Cell → AfterWrite
+write_of array update after = after_write (numbers_asked array.shape update.asked) update.stored after
+
+-- there is no room behind what is stored for the new slices of the subchunks that the places lie in: put there, they would make 2^63 bytes or more
 abbrev pub LacksRoom : Coded → Update → Type 0
-LacksRoom array update = AfterPut array update (PassesLength array.chain array.elements array.shape update.stored)
+LacksRoom array update = AfterPut array update (λ after. PassesLength array.chain array.elements array.shape (write_of array update after))
 
 -- what is stored can't be decoded, and would have to be, since there is no room behind it for the new slices
 abbrev pub HasNoRoom : Coded → Update → Type 0
@@ -221,7 +230,8 @@ NotPut damage refuses array update (Ok value) = Unit {0}
 NotPut damage refuses array update (Err error.Fit) = fits array.chain array.elements.type array.shape ≡ false
 NotPut damage refuses array update (Err error.IncompatibleIndexer) = are_inside array.shape update.asked ≡ false
 NotPut damage refuses array update (Err error.Size) =
-    IsTooLarge array.elements.type (product array.shape) ⊎ AfterPut array update (λ after. PassesIndex array.chain array.elements array.shape after ⊎ PassesLength array.chain array.elements array.shape update.stored after)
+    IsTooLarge array.elements.type (product array.shape)
+    ⊎ AfterPut array update (λ after. PassesIndex array.chain array.elements array.shape after ⊎ PassesLength array.chain array.elements array.shape (write_of array update after))
 NotPut damage refuses array update (Err error.Codec) = AfterPut array update refuses
 NotPut damage refuses array update (Err error.Damage) = (fits array.chain array.elements.type array.shape ≡ true) × damage
 NotPut damage refuses array update (Err error.Source) = Unit {0}
@@ -235,8 +245,8 @@ StopsWrite array update = IsDamaged array.chain array.elements array.shape updat
 -- a caller's codec refuses what a write asks it to encode, by the cells that the array would have: where the chain is encoded in part, what is asked for the parts that the write meets, or, where there is no room for these, for the whole; else what is asked for the whole
 abbrev pub WriteRefuses : Coded → Update → List Cell → Type 0
 WriteRefuses array update after =
-    let whole = CodecRefuses array.chain array.elements array.shape after in
-    MatchBool (encodes_in_part array.chain) (PartsRefused array.chain array.elements array.shape (after_write (numbers_asked array.shape update.asked) update.stored after) ⊎ (LacksRoom array update × whole)) whole
+    let whole = WholeRefused array.chain array.elements array.shape after in
+    MatchBool (encodes_in_part array.chain) (PartsRefused array.chain array.elements array.shape (write_of array update after) ⊎ (LacksRoom array update × whole)) whole
 
 -- why new elements are not put at the places that are asked for
 abbrev pub NotEncodedInto : {A : Type 0} → Coded → Update → Result A CodecError → Type 0
@@ -245,7 +255,7 @@ NotEncodedInto array update result = NotPut (StopsWrite array update) (WriteRefu
 -- the same where the value is decoded whole and written anew: it is damaged where it isn't decoded, and the whole is what is asked for
 abbrev pub NotEncodedWhole : {A : Type 0} → Coded → Update → Result A CodecError → Type 0
 NotEncodedWhole array update result =
-    NotPut (chunk_decoded array.chain array.elements array.shape update.stored ≡ None) (CodecRefuses array.chain array.elements array.shape) array update result
+    NotPut (chunk_decoded array.chain array.elements array.shape update.stored ≡ None) (WholeRefused array.chain array.elements array.shape) array update result
 
 -- the same before anything is read, which tells of no damage and asks no codec
 abbrev pub NotTaken : {A : Type 0} → Coded → Update → Result A CodecError → Type 0

@@ -23,10 +23,16 @@ Represents told (Ok known) = known_size known ≡ told
 Represents told (Err error.Size) = IsTrue (is_too_long told)
 Represents told (Err e) = ⊥
 
--- what the type and the shape of an array tell of the size of what it is encoded to
+-- what is told of a size below 2^63, or that it is too long
+abbrev pub RepresentsShort : chains.BytesRepresentation → Result BytesRepresentation CodecError → Type 0
+RepresentsShort told (Ok known) = (known_size known ≡ told) × (is_too_long told ≡ false)
+RepresentsShort told (Err e) = Represents told (Err e)
+
+-- what the type and the shape of an array tell of the size of what it is encoded to, where no codec tells a size of 2^63 or more
 pub record IsRepresented (chain : Chain) (type : DataType) (shape : List ℕ) (known : BytesRepresentation) : Type 0 where
   pub fit : fits chain type shape ≡ true
   pub is : known_size known ≡ representation_of chain type shape
+  pub short : tells_too_long chain type shape ≡ false
 
 -- what is told of the size of what an array is encoded to, or why nothing is
 abbrev pub RepresentsArray : Chain → DataType → List ℕ → Result BytesRepresentation CodecError → Type 0

@@ -1,5 +1,5 @@
 -- What a write in part leaves of a value, and how many bytes it takes of it.
-use Rattle.std.specs.Prelude.{◌≡◌, ◌⊎◌, ℕ, ◌+◌, ◌≤◌, List, map, Option, true, MatchBool, MatchOption, if◌then◌else◌}
+use Rattle.std.specs.Prelude.{◌≡◌, ◌⊎◌, ℕ, ◌+◌, ◌≤◌, List, map, Option, Bool, true, MatchBool, MatchOption, if◌then◌else◌}
 use Rattle.zarr_codecs_meaning.specs.Chains.{Chain}
 use Rattle.zarr_codecs_meaning.specs.Chains.Chain.{bytes, packbits, vlen, optional, after_array_codec, then_bytes, sharded}
 use Rattle.zarr_codecs_meaning.specs.Encoding.{base_of, index_size}
@@ -12,9 +12,10 @@ use Rattle.zarr_sharding_changes.specs.Gapless.{IsGapless}
 use Rattle.zarr_sharding_changes.specs.HeldShards.{IsAppendedTo, held_in}
 use Rattle.zarr_codecs_traits.specs.Arrays.{Coded, Update}
 use Rattle.zarr_codecs_traits.specs.Indexers.{numbers_asked}
-use Rattle.zarr_codecs_traits.specs.PartWriting.{AfterPut, AfterWrite, AreMet, IsNewSlice, IsPlaced, LacksRoom, NewSlicesMade, after_write, write_moved}
+use Rattle.zarr_codecs_traits.specs.PartWriting.{AfterPut, AfterWrite, AreNewSlices, IsPlaced, LacksRoom, write_moved, write_of}
 use Rattle.zarr_codecs_traits.specs.ReadBytes.{most_of_numbers}
 use Rattle.zarr_codecs_traits.specs.Sources.{value_length}
+use Rattle.zarr_codecs_traits.specs.Writes.{most_to_patch}
 
 -- ---- what is left
 
@@ -27,15 +28,14 @@ Appends (optional mask values) elements shape write new = Unit {0}
 Appends (after_array_codec codec chain) elements shape write new = Appends chain elements (encoded_shape codec shape) (write_moved codec elements.fill shape write) new
 Appends (then_bytes chain codec) elements shape write new = Unit {0}
 Appends (sharded subchunk inner index location) elements shape write new =
-    let parts = parts_of shape subchunk in
     let base = base_of location (index_size index (index_shape shape subchunk)) in
     is_lossless index uint64 ≡ true
-    → (changes : List Change) × AreMet write.numbers parts changes × NewSlicesMade (IsNewSlice inner elements) elements.fill write.cells parts changes
+    → (changes : List Change) × AreNewSlices inner elements (parts_of shape subchunk) write changes
     × IsAppendedTo (held_in subchunk index location shape) base changes write.stored new
 
 -- the parts that a write meets are appended to what is stored, and all others stay
 abbrev pub AppendsParts : Coded → Update → Option (List ℕ) → Type 0
-AppendsParts array update new = AfterPut array update (λ after. Appends array.chain array.elements array.shape (after_write (numbers_asked array.shape update.asked) update.stored after) new)
+AppendsParts array update new = AfterPut array update (λ after. Appends array.chain array.elements array.shape (write_of array update after) new)
 
 -- what is stored has no gaps, if anything is
 abbrev pub IsStoredGapless : Chain → List ℕ → Option (List ℕ) → Type 0
@@ -64,7 +64,11 @@ abbrev pub most_to_write : Coded → Update → ℕ
 most_to_write array update =
     if encodes_in_part array.chain then most_for_parts array.chain array.elements.type array.shape update.stored (numbers_asked array.shape update.asked) else value_length update.stored
 
--- whether the second is the count of bytes given after a write, by a source that writes ranges without the value: at most as many more as it takes; where there was no room for new slices, the value was read as well
-abbrev pub GivesWriting : Coded → Update → ℕ → ℕ → Type 0
-GivesWriting array update before after =
-    (after ≤ before + most_to_write array update) ⊎ (LacksRoom array update × (after ≤ before + most_to_write array update + value_length update.stored))
+-- how many bytes of the value a source gives at most to have ranges of it written: a chain that isn't encoded in part writes none, but sets the value whole
+abbrev pub most_patched : Coded → Update → Bool → ℕ
+most_patched array update ranges = if encodes_in_part array.chain then most_to_patch ranges update.stored else 0
+
+-- whether the second is the count of bytes given after a write; it is told whether the source writes ranges without giving its value. At most as many more are given as the write takes, and as the source gives to have ranges written; where there was no room for new slices, the value is read as well, and set whole
+abbrev pub GivesWriting : Coded → Update → Bool → ℕ → ℕ → Type 0
+GivesWriting array update ranges before after =
+    (after ≤ before + most_to_write array update + most_patched array update ranges) ⊎ (LacksRoom array update × (after ≤ before + most_to_write array update + value_length update.stored))

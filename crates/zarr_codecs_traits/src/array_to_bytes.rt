@@ -1,8 +1,8 @@
 //! Codecs between arrays and bytes.
-ghost use Rattle.std.specs.Prelude.{◌≡◌, ◌≤◌, ◌+◌, ◌<◌, ℕ, Bool, List, Option, Result, Vec, IfErr, IfOk, IsTrue, OnErr, OnOk, length};
+ghost use Rattle.std.specs.Prelude.{◌≡◌, ◌≤◌, ◌+◌, ◌<◌, ℕ, Bool, List, Option, Result, Vec, IfErr, IfOk, IsTrue, OnErr, OnOk, length, true};
 ghost use Rattle.std.specs.declared.alloc.Global.{Global};
 ghost use Rattle.zarr_codecs_meaning.specs.Chains.{Chain};
-ghost use Rattle.zarr_codecs_meaning.specs.Fits.{fits};
+ghost use Rattle.zarr_codecs_meaning.specs.Fits.{fits, is_plain};
 ghost use Rattle.zarr_codecs_meaning.specs.Laws.{IsLawfulChain};
 ghost use Rattle.zarr_codecs_meaning.specs.Partial.{encodes_in_part};
 ghost use Rattle.zarr_codecs_meaning.specs.Payloads.{Payload};
@@ -51,7 +51,7 @@ pub trait ArrayToBytesCodecTraits: Sized + Drop {
     ghost meaning: { Self → Chain };
 
     /// Whether what it makes of elements depends on these alone: it is then what encoding them
-    /// means, else any value that stands for them.
+    /// means, else any value that the chain may make of them.
     ghost is_function: { Self → Bool };
 
     /// Whether the second is a copy of the first: its codecs keep their names, and the subchunks of
@@ -82,14 +82,15 @@ pub trait ArrayToBytesCodecTraits: Sized + Drop {
         ensures { result ≡ is_function self.now };
 
     /// Whether the codec suits arrays of a data type and a shape. `Err` only where an allocation
-    /// failed, or a caller's codec tells 2^63 bytes or more of what it makes of a shard's index.
+    /// failed.
     fn fits(&self, alloc: Global, data_type: &DataType, shape: &[u64]) -> Result<bool, AllocError>
         ensures { IfOk result
             (λ fit. fit ≡ fits (meaning self.now) (type_of data_type.now) shape.now) };
 
     /// What the data type and the shape of an array tell of the size of the value that it is
-    /// encoded to. `Fit` where the codec doesn't suit the array; `Size` only where the array has
-    /// 2^63 elements or bytes or more, or one of the codecs tells a size of 2^63 or more.
+    /// encoded to. `Fit` where the codec doesn't suit the array; `Size` where one of the codecs
+    /// tells a size of 2^63 or more, and else only where the array has 2^63 elements or bytes or
+    /// more.
     fn encoded_representation(
         &self,
         alloc: Global,
@@ -213,10 +214,10 @@ pub trait ArrayToBytesCodecTraits: Sized + Drop {
             refused_after (E.refused_calls source.old) result }
         ensures once { WritesOnce (E.accepted_writes source.old) (E.accepted_writes source.new)
             result }
-        ensures given { IsTrue (E.is_honest source.old) → IsTrue (E.writes_ranges source.old) →
-            GivesWriting (coded_part (meaning self.now) part.entry)
-            (update_part part.entry bytes (E.contents source.old)) (E.given_bytes source.old)
-            (E.given_bytes source.new) }
+        ensures given { IsTrue (E.is_honest source.old) → GivesWriting
+            (coded_part (meaning self.now) part.entry)
+            (update_part part.entry bytes (E.contents source.old)) (E.writes_ranges source.old)
+            (E.given_bytes source.old) (E.given_bytes source.new) }
         ensures rewrites { E.rewrites source.old source.new };
 
     /// What `compact` answers, with no thread started.
@@ -394,8 +395,8 @@ pub trait ArrayToBytesCodecTraits: Sized + Drop {
 
     /// The bytes that the elements of an array are encoded to, without gaps. `Fit` where the codec
     /// doesn't suit the array; `InvalidNumberOfElements`, `Expected..` or `CellOutOfRange` where
-    /// these are not its elements; `Codec` where the caller's codec refuses what it is asked to
-    /// encode; `Size` where an offset, a length or the array itself is too large.
+    /// these are not its elements; `Codec` where a caller's codec refuses; `Size` where an offset, a
+    /// length or the array itself is too large.
     final fn encode<R: Threads + Sync>(
         &self,
         rt: &R,
@@ -487,9 +488,9 @@ pub trait ArrayToBytesCodecTraits: Sized + Drop {
     }
 
     /// Puts elements at the places asked for, in their order, by at most one writing call. A
-    /// shard's slices are appended; a shard that is all fill then is taken away. Errors as those of
-    /// `encode` and `partial_decode`: `Damage` where the value stops the write, `Size` also where
-    /// the new one would be too long. A refusal changes nothing.
+    /// shard's new slices are appended where there is room; a shard of fill alone is taken away.
+    /// Errors as those of `encode` and `partial_decode`: `Damage` where the value stops the write,
+    /// `Size` also where it would grow too long. A refusal changes nothing.
     final fn partial_encode<R: Threads + Sync, E: BytesPartialEncoderTraits>(
         &self,
         rt: &R,
@@ -515,10 +516,10 @@ pub trait ArrayToBytesCodecTraits: Sized + Drop {
             refused_after (E.refused_calls source.old) result }
         ensures once { WritesOnce (E.accepted_writes source.old) (E.accepted_writes source.new)
             result }
-        ensures given { IsTrue (E.is_honest source.old) → IsTrue (E.writes_ranges source.old) →
-            GivesWriting (coded_part (meaning self.now) given.entry.part)
-            (update_given given.entry (E.contents source.old)) (E.given_bytes source.old)
-            (E.given_bytes source.new) }
+        ensures given { IsTrue (E.is_honest source.old) → GivesWriting
+            (coded_part (meaning self.now) given.entry.part)
+            (update_given given.entry (E.contents source.old)) (E.writes_ranges source.old)
+            (E.given_bytes source.old) (E.given_bytes source.new) }
         ensures rewrites { E.rewrites source.old source.new }
     {
         let GivenPart { bytes, part } = given;
@@ -546,4 +547,6 @@ pub trait ArrayToBytesCodecTraits: Sized + Drop {
     }
 
     ghost lawful: { (codec : Self) → IsLawfulChain (meaning codec) };
+
+    ghost plain: { (codec : Self) → is_plain (meaning codec) ≡ true → IsTrue (is_function codec) };
 }

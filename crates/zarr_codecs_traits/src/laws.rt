@@ -1,7 +1,7 @@
 //! Worked examples and a law of codecs that read and write a part of a value. Each function does
 //! nothing: its contract is the law.
 ghost use Rattle.zarr_codecs_traits.specs.PartEncoding.{PatchedDecode};
-ghost use Rattle.zarr_codecs_traits.specs.WorkedWrites.{ReadRows, WriteRows};
+ghost use Rattle.zarr_codecs_traits.specs.WorkedWrites.{ReadRows, UnwrittenRows, WriteRows};
 
 /// Where elements can be replaced in values that nobody reads, a value is decoded exactly where it
 /// has as many bytes as the array's elements.
@@ -17,4 +17,9 @@ pub fn read_rows()
 /// What writes in part leave of a shard.
 pub fn write_rows()
     ensures { WriteRows }
+{}
+
+/// What a write into a shard asks of a caller's codec, and room behind a shard.
+pub fn unwritten_rows()
+    ensures { UnwrittenRows }
 {}

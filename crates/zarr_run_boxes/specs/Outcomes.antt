@@ -18,6 +18,7 @@ use Rattle.zarr_array_meaning.specs.Writing.{WroteChunks, ErasedChunks}
 use Rattle.zarr_run_meaning.specs.declared.cause.Cause.{Cause}
 use Rattle.zarr_run_meaning.specs.declared.cause.Cause.TheVariants as cause
 use Rattle.zarr_run_meaning.specs.Causes.{IsTarget, AreTargets, Gives, IsGiven, HasTooLarge, HasTooLargeChunk, WriteRefuses, StopsAt, ReadRefuses, EraseRefuses, EraseStops}
+use Rattle.zarr_run_meaning.specs.Counts.{most_refused}
 use Rattle.zarr_run_meaning.specs.Requests.{Target, WriteAsked}
 use Rattle.zarr_run_meaning.specs.Steps.{refused_after, CountsRefusal}
 use Rattle.zarr_run_boxes.specs.declared.refusal.Refusal.{Refusal}
@@ -36,6 +37,11 @@ refused_with count (Err c) = refused_after c count
 abbrev pub CountsRead : {A : Type 0} → Result A Cause → ℕ → ℕ → Type 0
 CountsRead (Ok value) before after = after ≡ before
 CountsRead (Err c) before after = CountsRefusal c before after
+
+-- how many bytes a read takes at most that is done or refused so, of at most so many
+abbrev pub most_with : {A : Type 0} → Result A Cause → ℕ → ℕ
+most_with (Ok value) most = most
+most_with (Err c) most = most_refused c most
 
 -- nothing was changed before the refusal
 pub record IsUntouched (refusal : Refusal) (old new : StoreMap) : Type 0 where

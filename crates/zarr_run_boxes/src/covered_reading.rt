@@ -4,9 +4,11 @@ ghost use Rattle.zarr_grids_boxes.specs.Subsets.{region_of};
 ghost use Rattle.zarr_grids_chunks.specs.Grids.{IsCovered};
 ghost use Rattle.zarr_codecs_meaning.specs.Payloads.{cells_in};
 ghost use Rattle.zarr_codecs_arrays.specs.Views.{payload_of};
+ghost use Rattle.zarr_array_meaning.specs.ReadBytes.{box_read, most_of_box};
+ghost use Rattle.zarr_array_core.specs.Calls.{GivesAtMost};
 ghost use Rattle.zarr_array_core.specs.Outcomes.{ReadStops};
 ghost use Rattle.zarr_array_core.specs.Views.{document_of, path_of};
-ghost use Rattle.zarr_run_boxes.specs.Outcomes.{CountsRead, GivesCovered, CoveredReadRefused, cause_of};
+ghost use Rattle.zarr_run_boxes.specs.Outcomes.{CountsRead, GivesCovered, CoveredReadRefused, cause_of, most_with};
 
 use crate::refusal::cause_of;
 use crate::targets::small_chunks_intersecting;
@@ -30,7 +32,7 @@ fn no_cells<C: ArrayToBytesCodecTraits>(
         cells_in (document_of C.meaning array.now).elements.type (payload_of bytes) ≡ Some []) }
     ensures err { IfErr result (λ cause. cause ≡ Cause.Memory) }
 {
-    match ArrayBytes::new_fill_value(alloc, array.elements(), 0) {
+    match ArrayBytes::fill_values(alloc, array.elements(), 0) {
         Ok(bytes) => Ok(bytes),
         Err(_) => Err(Cause::Memory),
     }
@@ -59,6 +61,9 @@ pub(crate) fn read_covered<
     ensures held { S.held store.new ≡ S.held store.old }
     ensures honest { S.is_honest store.new ≡ S.is_honest store.old }
     ensures refused { CountsRead result (S.refused_calls store.old) (S.refused_calls store.new) }
+    ensures given { GivesAtMost S.ReadableStorageTraits (most_with result (most_of_box (box_read
+        (path_of array.now) (document_of C.meaning array.now) (S.held store.old)
+        (region_of region.now) options.now.workers))) store.old store.new }
     ensures accepted { S.accepted_writes store.new ≡ S.accepted_writes store.old }
 {
     let alloc = rooms.alloc();

@@ -2,9 +2,11 @@
 ghost use Rattle.std.specs.Prelude.{◌≡◌, IsTrue, IfOk, IfErr};
 ghost use Rattle.zarr_grids_boxes.specs.Subsets.{region_of};
 ghost use Rattle.zarr_codecs_arrays.specs.Views.{payload_of};
+ghost use Rattle.zarr_run_meaning.specs.Counts.{most_of_target};
 ghost use Rattle.zarr_run_meaning.specs.Requests.{in_box, in_chunk};
+ghost use Rattle.zarr_array_core.specs.Calls.{GivesAtMost};
 ghost use Rattle.zarr_array_core.specs.Views.{document_of, path_of};
-ghost use Rattle.zarr_run_boxes.specs.Outcomes.{CountsRead, ReadsTarget, ReadRefused};
+ghost use Rattle.zarr_run_boxes.specs.Outcomes.{CountsRead, ReadsTarget, ReadRefused, most_with};
 
 use crate::covered_reading::read_covered;
 use crate::targets::{chunk_region, is_covered};
@@ -38,6 +40,9 @@ pub fn read_box<R: Threads + Sync, C: ArrayToBytesCodecTraits + Sync, S: Readabl
     ensures held { S.held store.new ≡ S.held store.old }
     ensures honest { S.is_honest store.new ≡ S.is_honest store.old }
     ensures refused { CountsRead result (S.refused_calls store.old) (S.refused_calls store.new) }
+    ensures given { GivesAtMost S.ReadableStorageTraits (most_with result (most_of_target
+        (path_of array.now) (document_of C.meaning array.now) (S.held store.old)
+        (in_box (region_of region.now)) options.now.workers)) store.old store.new }
     ensures accepted { S.accepted_writes store.new ≡ S.accepted_writes store.old }
 {
     if !is_covered(array, region) {
@@ -65,6 +70,9 @@ pub fn read_chunk<R: Threads + Sync, C: ArrayToBytesCodecTraits + Sync, S: Reada
     ensures held { S.held store.new ≡ S.held store.old }
     ensures honest { S.is_honest store.new ≡ S.is_honest store.old }
     ensures refused { CountsRead result (S.refused_calls store.old) (S.refused_calls store.new) }
+    ensures given { GivesAtMost S.ReadableStorageTraits (most_with result (most_of_target
+        (path_of array.now) (document_of C.meaning array.now) (S.held store.old)
+        (in_chunk chunk.now) options.now.workers)) store.old store.new }
     ensures accepted { S.accepted_writes store.new ≡ S.accepted_writes store.old }
 {
     let region = chunk_region(rooms.alloc(), array, chunk)?;

@@ -35,3 +35,4 @@ pub mod BoxSteps
 pub mod BoxOrders
 pub mod BoxRuns
 pub mod Workers
+pub mod LocalReads

@@ -12,4 +12,5 @@ pub mod Laws
 pub mod Rewrites
 pub mod Tight
 pub mod BoxLaws
+pub mod LocalReads
 pub mod Workers

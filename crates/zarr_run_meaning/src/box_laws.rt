@@ -1,10 +1,17 @@
 //! Laws of boxes. Each function does nothing: its contract is the law.
 ghost use Rattle.zarr_run_meaning.specs.BoxLaws.{ReadsAgree, ReadsOfParts, PartsReadWhole, StoresBack};
 ghost use Rattle.zarr_run_meaning.specs.BoxLaws.{WritesCommute, WritesCommuteApart, BoxesAlike, AnsweredAlike};
+ghost use Rattle.zarr_run_meaning.specs.LocalReads.{ReadsAreLocal};
 
 /// In one world, whatever is stored, two reads give the same cell at each place of both boxes.
 pub fn reads_agree()
     ensures { ReadsAgree }
+{}
+
+/// A read of a box depends only on what is stored for its places: of a shard that stands alone on
+/// its length, its index and the slices that they lie in, of any other value on all of it.
+pub fn reads_are_local()
+    ensures { ReadsAreLocal }
 {}
 
 /// The cells of a box are those of its parts put together, whatever is stored.

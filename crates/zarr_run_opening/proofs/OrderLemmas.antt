@@ -6,9 +6,9 @@ use Rattle.zarr_codecs_meaning.specs.Fits.{is_plain}
 use Rattle.zarr_codecs_options.specs.declared.subchunk_write_order.SubchunkWriteOrder.{SubchunkWriteOrder}
 use Rattle.zarr_codecs_options.specs.declared.subchunk_write_order.SubchunkWriteOrder.TheVariants.{Random, C, Unordered}
 use Rattle.zarr_sharding_inner.specs.Orders as shard
-use Rattle.zarr_sharding_arrays.specs.ArrayChains.{array_function, array_meaning}
-use Rattle.zarr_sharding_arrays.specs.declared.array_chain.ArrayChain.{ArrayChain}
-use Rattle.zarr_sharding_arrays.proofs.Functions.{plain_function}
+use Rattle.zarr_sharding_chains.specs.ArrayChains.{array_function, array_meaning}
+use Rattle.zarr_sharding_chains.specs.declared.array_chain.ArrayChain.{ArrayChain}
+use Rattle.zarr_sharding_chains.proofs.Functions.{plain_function}
 use Rattle.zarr_array_core.specs.Views.{codecs_of, document_of}
 use Rattle.zarr_array_core.specs.declared.array_core.ArrayCore.{ArrayCore}
 use Rattle.zarr_array_meaning.specs.Documents.{Document}

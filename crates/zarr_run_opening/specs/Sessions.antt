@@ -9,8 +9,8 @@ use Rattle.zarr_codecs_meaning.specs.Chains.{ByteCodec}
 use Rattle.zarr_codecs_meaning.specs.Fits.{is_plain}
 use Rattle.zarr_codecs_metadata.specs.Chains.{ReadsCodecs}
 use Rattle.zarr_codecs_options.specs.declared.subchunk_write_order.SubchunkWriteOrder.{SubchunkWriteOrder}
-use Rattle.zarr_sharding_arrays.specs.ArrayChains.{array_function, array_meaning}
-use Rattle.zarr_sharding_arrays.specs.declared.array_chain.ArrayChain.{ArrayChain}
+use Rattle.zarr_sharding_chains.specs.ArrayChains.{array_function, array_meaning}
+use Rattle.zarr_sharding_chains.specs.declared.array_chain.ArrayChain.{ArrayChain}
 use Rattle.zarr_array_core.specs.Views as core
 use Rattle.zarr_array_core.specs.declared.array_core.ArrayCore.{ArrayCore}
 use Rattle.zarr_array_meaning.specs.Documents.{Document, read_document}

@@ -6,7 +6,7 @@ ghost use Rattle.zarr_grids_keys.specs.Encodings.{suffixed_keys};
 ghost use Rattle.zarr_grids_keys.specs.Keys.{chunk_key, numbers_after};
 ghost use Rattle.zarr_grids_keys.specs.Paths.{is_node_path};
 ghost use Rattle.zarr_grids_keys.specs.Separators.{separator_byte};
-ghost use Rattle.zarr_sharding_arrays.specs.ArrayChains.{array_meaning};
+ghost use Rattle.zarr_sharding_chains.specs.ArrayChains.{array_meaning};
 ghost use Rattle.zarr_array_core.specs.Views.{document_of};
 ghost use Rattle.zarr_run_meaning.specs.Causes.{IsChunkKey};
 ghost use Rattle.zarr_run_opening.specs.ChunkKeys.{IsChunkKeyAt, IsChunkKeyOf, IsDocumentKey, length_above};
@@ -22,7 +22,7 @@ use zarr_grids_keys::{
     ChunkKeyEncoding, ChunkKeySeparator, DefaultSuffixChunkKeyEncoding, DocumentName, chunk_key,
     document_key, parent_path,
 };
-use zarr_sharding_arrays::ArrayChain;
+use zarr_sharding_chains::ArrayChain;
 
 /// Whether the key of a document of the node at a path is that of a chunk in the grid of an array
 /// that is held. Such an array stands above the path, so the paths above are looked up one by one.

@@ -10,7 +10,7 @@ ghost use Rattle.zarr_array_meaning.specs.Documents.{read_document};
 ghost use Rattle.zarr_array_meaning.specs.StoreMaps.{CountsUpTo};
 ghost use Rattle.zarr_array_meaning.specs.Texts.{HasNoDocument};
 ghost use Rattle.zarr_array_meaning.specs.Written.{written_document};
-ghost use Rattle.zarr_sharding_arrays.specs.ArrayChains.{array_meaning};
+ghost use Rattle.zarr_sharding_chains.specs.ArrayChains.{array_meaning};
 ghost use Rattle.zarr_run_meaning.specs.Causes.{HasSomeDocument};
 ghost use Rattle.zarr_run_meaning.specs.Counts.{WritesAtMost};
 ghost use Rattle.zarr_run_meaning.specs.Requests as ask;
@@ -35,7 +35,7 @@ use zarr_codecs_options::SubchunkWriteOrder;
 use zarr_codecs_traits::BytesToBytesCodecTraits;
 use zarr_grids_keys::{DocumentName, is_node_path};
 use zarr_run_meaning::Cause;
-use zarr_sharding_arrays::ArrayChain;
+use zarr_sharding_chains::ArrayChain;
 
 /// The document that is written for a new array at a path, and its texts.
 #[derive(Drop)]

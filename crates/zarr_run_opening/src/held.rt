@@ -3,7 +3,7 @@ use serde_json::Value;
 use zarr_array_core::ArrayCore;
 use zarr_codecs_options::SubchunkWriteOrder;
 use zarr_codecs_traits::BytesToBytesCodecTraits;
-use zarr_sharding_arrays::ArrayChain;
+use zarr_sharding_chains::ArrayChain;
 
 /// An array that is held: the array itself, the JSON tree of its document as it was written or
 /// opened, and its write order, which the shards of its codecs have at every depth.

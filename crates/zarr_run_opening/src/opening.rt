@@ -2,7 +2,7 @@
 ghost use Rattle.std.specs.Prelude.{◌≡◌, IsTrue, IfOk, IfErr, Ok};
 ghost use Rattle.serde_json.specs.View.{view};
 ghost use Rattle.zarr_grids_keys.specs.Paths.{is_node_path};
-ghost use Rattle.zarr_sharding_arrays.specs.ArrayChains.{array_meaning};
+ghost use Rattle.zarr_sharding_chains.specs.ArrayChains.{array_meaning};
 ghost use Rattle.zarr_array_core.specs.Views.{path_of, document_of};
 ghost use Rattle.zarr_array_meaning.specs.Documents.{read_document};
 ghost use Rattle.zarr_run_opening.specs.Calls.{DocumentRefused};
@@ -18,7 +18,7 @@ use zarr_codecs_options::SubchunkWriteOrder;
 use zarr_codecs_traits::BytesToBytesCodecTraits;
 use zarr_grids_keys::NodePath;
 use zarr_run_meaning::Cause;
-use zarr_sharding_arrays::ArrayChain;
+use zarr_sharding_chains::ArrayChain;
 
 /// The array at a path whose document is a tree, with the write order for its shards at every
 /// depth. `Document` where it cannot be opened.

@@ -1,6 +1,6 @@
 //! The write order of an array.
 ghost use Rattle.std.specs.Prelude.{◌≡◌};
-ghost use Rattle.zarr_sharding_arrays.specs.ArrayChains.{array_meaning};
+ghost use Rattle.zarr_sharding_chains.specs.ArrayChains.{array_meaning};
 ghost use Rattle.zarr_array_core.specs.Views.{document_of, path_of};
 ghost use Rattle.zarr_run_opening.specs.Sessions.{FollowsOrder};
 
@@ -9,7 +9,7 @@ use zarr_array_core::ArrayCore;
 use zarr_codecs_chains::{ArrayToBytesCodec, BytesCodec, CodecChain};
 use zarr_codecs_options::SubchunkWriteOrder;
 use zarr_codecs_traits::BytesToBytesCodecTraits;
-use zarr_sharding_arrays::ArrayChain;
+use zarr_sharding_chains::ArrayChain;
 use zarr_sharding_inner::{ShardingCodecOptions, TakesShardingOptions};
 
 /// Gives the shards of an array a write order, at every depth. It needs no memory.

@@ -1,10 +1,10 @@
 //! The script as lines, and its first lines as a list of commands.
 
-use crate::script::{PLAIN, command};
-use crate::tables::{Tables, keys_of};
+use crate::plain::PLAIN;
 use std::alloc::{AllocError, Global};
 use std::thread::Threads;
 use zarr_run::{Command, LinesFault, MemoryStore, Reply, ReverseCodec, Session, run_lines};
+use zarr_run_scarcity_tables::{Tables, command, keys_of};
 use zarr_scarcity_scripts::{Stop, expect};
 
 /// The answers with ample memory.

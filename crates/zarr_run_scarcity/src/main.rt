@@ -11,13 +11,11 @@
 
 mod lines;
 mod older;
-mod script;
+mod plain;
 mod shards;
-mod steps;
-mod tables;
 
 use crate::older::OLDER;
-use crate::script::PLAIN;
+use crate::plain::PLAIN;
 use crate::shards::SHARDS;
 use std::process::ExitCode;
 use std::thread::Threads;
@@ -27,12 +25,12 @@ use zarr_scarcity_scripts::{Stop, read_letter, tell};
 fn run<R: AllocGlobal + Threads + Sync>(rt: &R, letter: u8) -> Result<(), Stop> {
     let workers = letter.is_ascii_uppercase();
     match letter.to_ascii_lowercase() {
-        b's' => steps::run(rt, PLAIN.with_workers(workers)),
-        b'r' => steps::run_over_refusals(rt, PLAIN.with_workers(workers)),
-        b'p' => steps::run(rt, SHARDS.with_workers(workers)),
-        b'q' => steps::run_over_refusals(rt, SHARDS.with_workers(workers)),
-        b'v' => steps::run(rt, OLDER.with_workers(workers)),
-        b'w' => steps::run_over_refusals(rt, OLDER.with_workers(workers)),
+        b's' => zarr_run_scarcity_steps::run(rt, PLAIN.with_workers(workers)),
+        b'r' => zarr_run_scarcity_steps::run_over_refusals(rt, PLAIN.with_workers(workers)),
+        b'p' => zarr_run_scarcity_steps::run(rt, SHARDS.with_workers(workers)),
+        b'q' => zarr_run_scarcity_steps::run_over_refusals(rt, SHARDS.with_workers(workers)),
+        b'v' => zarr_run_scarcity_steps::run(rt, OLDER.with_workers(workers)),
+        b'w' => zarr_run_scarcity_steps::run_over_refusals(rt, OLDER.with_workers(workers)),
         b'l' => lines::run(rt, workers),
         _ => Err(Stop::Other),
     }

@@ -1,8 +1,7 @@
 //! The commands of a script at two arrays of version 2: `/v`, in the order F, and `/w/n`, of
 //! numbers with a compressor.
 
-use crate::script::{Asks, Line, Names, Script};
-use crate::tables::Array;
+use zarr_run_scarcity_tables::{Array, Asks, Line, Names, Script};
 
 /// Arrays of version 2. A refused create may leave attributes.
 pub(crate) const OLDER: Script = Script {

@@ -1,8 +1,7 @@
 //! The commands of a script at two arrays in shards: `/s`, whose chunks are shards, and `/t/n`,
 //! whose chunks are shards of shards.
 
-use crate::script::{Asks, Line, Names, Script};
-use crate::tables::Array;
+use zarr_run_scarcity_tables::{Array, Asks, Line, Names, Script};
 
 /// Arrays in shards. A chunk that is all fill loses its key also where a part of it is written.
 pub(crate) const SHARDS: Script = Script {

@@ -1,5 +1,5 @@
--- How many writing calls a command makes at most, by what is answered.
-use Rattle.std.proofs.Common.{◌≡◌, ◌∙◌, ℕ, List, Bool, true, false, length, refl, sym, ap, subst, arith, Option, Result, Ok, Err}
+-- How many writing calls a command makes at most, by what is answered, and how many bytes a read takes.
+use Rattle.std.proofs.Common.{◌≡◌, ◌≤◌, ◌+◌, ◌∙◌, ℕ, List, Bool, true, false, length, refl, sym, ap, subst, arith, Option, Result, Ok, Err}
 use Rattle.std.specs.Option.{option_map_or}
 use Rattle.zarr_grids_boxes.specs.Boxes.{Region, product}
 use Rattle.zarr_codecs_arrays.specs.declared.array_bytes.ArrayBytes.{ArrayBytes}
@@ -15,8 +15,9 @@ use Rattle.zarr_array_meaning.specs.StoreMaps.{StoreMap, CountsUpTo}
 use Rattle.zarr_array_core.specs.Calls.{calls_done, calls_of}
 use Rattle.zarr_run_boxes.specs.Calls.{chunks_done}
 use Rattle.zarr_run_boxes.specs.declared.refusal.Refusal.{Refusal}
-use Rattle.zarr_run_meaning.specs.Counts.{chunks_meant, WritesAtMost}
-use Rattle.zarr_run_meaning.specs.Requests.{Target, reopen, write, read, erase, compact, rewrite, Answer}
+use Rattle.zarr_run_boxes.specs.Outcomes.{most_with}
+use Rattle.zarr_run_meaning.specs.Counts.{chunks_meant, most_of_target, most_refused, ReadsAtMost, WritesAtMost}
+use Rattle.zarr_run_meaning.specs.Requests.{Target, reopen, write, read, erase, compact, rewrite, Answer, refused}
 use Rattle.zarr_run_meaning.specs.Worlds.{Held, World, array_of, held_at}
 use Rattle.zarr_run_meaning.specs.declared.cause.Cause.{Cause}
 use Rattle.zarr_run_opening.specs.Sessions.{Arrays, answer_of, array_at, document_of, IsIn}
@@ -28,6 +29,10 @@ use Rattle.zarr_run_session.specs.Replies.{answer_after, answer_changed, answer_
 -- where no writing call was made
 pub none_made : (old new : ℕ) → new ≡ old → CountsUpTo 0 old new
 none_made old new same = (omega arith, omega arith)
+
+-- where nothing was read
+pub none_read : (w : World) (path : List ℕ) (target : Target) (options : CodecOptions) (c : Cause) (count : ℕ) → ReadsAtMost w (read path target options) (refused c 0) count count
+none_read w path target options c count = omega arith
 
 -- ---- commands whose answer alone bounds the calls
 
@@ -72,3 +77,19 @@ module _ (B : Type 0) (meaning : B → ByteCodec) (reads : ReadsCodecs) (arrays 
       ap meant held.1 ∙ ap (λ s. keyed held.0.path held.0.document s) k.store ∙ ap (λ p. keyed p held.0.document store) held.2.path ∙ ap (λ d. keyed (path_of array.core) d store) held.2.document in
       subst (λ answer. WritesAtMost w (rewrite path options) answer a b) (sym says) (subst (λ m. CountsUpTo m a b) (sym most) counts)
   rewrite_bound options exact (Err refusal) answer a b says counts = subst (λ answer. WritesAtMost w (rewrite path options) answer a b) (sym says) counts
+
+  -- a read: what its box may take
+  most_meant : (target : Target) (workers : Bool)
+      → option_map_or (λ (h : Held). most_of_target h.path h.document w.store target workers) (held_at path w.arrays) 0 ≡ most_of_target (path_of array.core) (document_of meaning array) store target workers
+  most_meant target workers =
+      let held = agreed_held B meaning reads store (array_at arrays path) (held_at path w.arrays) array (k.agree path) is.found in
+      let taken : List ℕ → Document → StoreMap → ℕ = λ p d s. most_of_target p d s target workers in
+      let meant : Option Held → ℕ = λ o. option_map_or (λ (h : Held). most_of_target h.path h.document w.store target workers) o 0 in
+      ap meant held.1 ∙ ap (λ s. taken held.0.path held.0.document s) k.store ∙ ap (λ p. taken p held.0.document store) held.2.path ∙ ap (λ d. taken (path_of array.core) d store) held.2.document
+
+  pub bytes_bound : (target : Target) (options : CodecOptions) (result : Result ArrayBytes Cause) (answer : Answer) (a b : ℕ) → answer ≡ answer_with result
+      → b ≤ a + most_with result (most_of_target (path_of array.core) (document_of meaning array) store target options.workers) → ReadsAtMost w (read path target options) answer a b
+  bytes_bound target options (Ok bytes) answer a b says few =
+      subst (λ answer. ReadsAtMost w (read path target options) answer a b) (sym says) (subst (λ (m : ℕ). b ≤ a + m) (sym (most_meant target options.workers)) few)
+  bytes_bound target options (Err c) answer a b says few =
+      subst (λ answer. ReadsAtMost w (read path target options) answer a b) (sym says) (subst (λ (m : ℕ). b ≤ a + most_refused c m) (sym (most_meant target options.workers)) few)

@@ -4,7 +4,7 @@ use Rattle.zarr_grids_boxes.specs.Boxes.{Region, places}
 use Rattle.zarr_grids_keys.specs.Paths.{is_node_path}
 use Rattle.zarr_codecs_meaning.specs.Chains.{ByteCodec}
 use Rattle.zarr_codecs_metadata.specs.Chains.{ReadsCodecs}
-use Rattle.zarr_sharding_arrays.specs.ArrayChains.{array_function}
+use Rattle.zarr_sharding_chains.specs.ArrayChains.{array_function}
 use Rattle.zarr_array_core.specs.Views.{is_exact, path_of}
 use Rattle.zarr_array_meaning.specs.Arrays.{Array}
 use Rattle.zarr_array_meaning.specs.Documents.{Document}

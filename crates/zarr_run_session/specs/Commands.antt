@@ -5,7 +5,7 @@ use Rattle.zarr_codecs_traits.specs.declared.bytes_to_bytes.BytesToBytesCodecTra
 use Rattle.zarr_run_commands.specs.Commands.{asked, answered}
 use Rattle.zarr_run_commands.specs.declared.command.Command.{Command}
 use Rattle.zarr_run_commands.specs.declared.command.Reply.{Reply}
-use Rattle.zarr_run_meaning.specs.Counts.{WritesAtMost}
+use Rattle.zarr_run_meaning.specs.Counts.{ReadsAtMost, WritesAtMost}
 use Rattle.zarr_run_meaning.specs.Requests.{Request, over_store}
 use Rattle.zarr_run_meaning.specs.Worlds.{World}
 use Rattle.zarr_run_opening.specs.Sessions.{Codecs, State, IsIn, Exchange, StepsFrom}
@@ -37,9 +37,15 @@ abbrev pub BoundsWrites : {S B : Type 0} → Traits S B → Session S B → Exch
 BoundsWrites t old e new = IsTrue (t.0.is_honest old.store) → (world : World) → IsIn t.1.meaning t.1.reads (state_of t.0.held t.0.refused_calls old) world
     → WritesAtMost world e.0 e.1 (t.0.accepted_writes old.store) (t.0.accepted_writes new.store)
 
--- a command was run: over an honest store it is a step with few writing calls; and whatever the store is, it stays as honest as it was, and its refused calls are counted as the answer says
+-- over an honest store, a command that is a read takes at most as many bytes of it as its answer and each world that the session was in allow
+abbrev pub BoundsReads : {S B : Type 0} → Traits S B → Session S B → Exchange → Session S B → Type 0
+BoundsReads t old e new = IsTrue (t.0.is_honest old.store) → (world : World) → IsIn t.1.meaning t.1.reads (state_of t.0.held t.0.refused_calls old) world
+    → ReadsAtMost world e.0 e.1 (t.0.given_bytes old.store) (t.0.given_bytes new.store)
+
+-- a command was run: over an honest store it is a step with few writing calls, and takes few bytes where it reads; and whatever the store is, it stays as honest as it was, and its refused calls are counted as the answer says
 pub record Ran {S B : Type 0} (t : Traits S B) (old : Session S B) (e : Exchange) (new : Session S B) : Type 0 where
   pub steps : OverHonest t old e new StepsFrom
   pub writes : BoundsWrites t old e new
+  pub given : BoundsReads t old e new
   pub honest : t.0.is_honest new.store ≡ t.0.is_honest old.store
   pub refused : CountsAnswer e.1 (t.0.refused_calls old.store) (t.0.refused_calls new.store)

@@ -64,7 +64,7 @@ impl<S: WritableStorageTraits, B: BytesToBytesCodecTraits + Sync> Session<S, B> 
     ghost use Rattle.std.specs.Prelude.{◌≡◌};
     ghost use Rattle.zarr_run_commands.specs.Commands.{answered};
     ghost use Rattle.zarr_run_opening.specs.Sessions.{StepsFrom};
-    ghost use Rattle.zarr_run_session.specs.Commands.{BoundsWrites, OverHonest, Ran, exchange_over};
+    ghost use Rattle.zarr_run_session.specs.Commands.{BoundsReads, BoundsWrites, OverHonest, Ran, exchange_over};
     ghost use Rattle.zarr_run_session.specs.Headline.{KeepsTables, KeepsAlone, RewritesAfresh, KeepsTight};
     ghost use Rattle.zarr_run_session.specs.Sessions.{CountsAnswer, store_of};
 
@@ -86,6 +86,8 @@ impl<S: WritableStorageTraits, B: BytesToBytesCodecTraits + Sync> Session<S, B> 
             (exchange_over S.supports_set_partial command.now result) self.new KeepsTight }
         // the store
         ensures writes { BoundsWrites (S.ReadableStorageTraits, B.BytesToBytesCodecTraits) self.old
+            (exchange_over S.supports_set_partial command.now result) self.new }
+        ensures given { BoundsReads (S.ReadableStorageTraits, B.BytesToBytesCodecTraits) self.old
             (exchange_over S.supports_set_partial command.now result) self.new }
         ensures honest { S.is_honest (store_of self.new) ≡ S.is_honest (store_of self.old) }
         ensures refused { CountsAnswer (answered result)

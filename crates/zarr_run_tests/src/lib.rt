@@ -1,21 +1,7 @@
-//! Tests of `zarr_run` that need code: typed commands, streams that fail, what a line says that no
-//! answer shows, and want of memory in a thread. Whole sessions are in the stories; that workers are
-//! several threads is in `zarr_workers_tests`.
+//! Tests of sessions that need code: typed commands, stores that count or change, and a codec that
+//! refuses. Lines are in `zarr_run_lines_tests`, and what reads take of a store in
+//! `zarr_run_reads_tests`. Whole sessions are in the stories.
 #![tactic(auto)]
 
 #[cfg(test)]
-mod answers;
-#[cfg(test)]
-mod lines;
-#[cfg(test)]
-mod refusing_codec;
-#[cfg(test)]
-mod samples;
-#[cfg(test)]
 mod sessions;
-#[cfg(test)]
-mod streams;
-#[cfg(test)]
-mod test_store;
-#[cfg(test)]
-mod workers;

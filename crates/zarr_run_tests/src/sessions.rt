@@ -1,16 +1,15 @@
 //! Sessions by typed commands, over stores that count or change, and with a codec that refuses.
 
-use crate::refusing_codec::RefusingCodec;
-use crate::samples::{
-    CREATE, DONE, MemorySession, READ, READ_ANSWER, REOPEN, WRITE, command, creates, does, has,
-    has_keys, is_answered, new_session, talks,
-};
-use crate::test_store::TestStore;
 use std::alloc::{AllocError, Global};
 use std::thread::Threads;
 use zarr_run::{
     ArrayBytes, ArraySubset, CodecOptions, Command, CommandCells, DataType, MemoryStore,
     ReverseCodec, Session, run_on,
+};
+use zarr_run_fakes::{RefusingCodec, TestStore};
+use zarr_run_samples::{
+    CREATE, DONE, MemorySession, READ, READ_ANSWER, REOPEN, WRITE, command, creates, does, has,
+    has_keys, is_answered, new_session, talks,
 };
 
 /// The codec `bytes` with the highest byte first.
@@ -189,6 +188,7 @@ fn test_session<const TAKES_RANGES: bool>(
         inner: MemoryStore::new(alloc),
         calls_before,
         fetches: 0,
+        bytes: 0,
         patches: 0,
     };
     Session::new(alloc, store)

@@ -15,25 +15,24 @@
 //!   behind a lock.
 //! - Parts: `read_asked`, `read_numbers`, `update_asked` and `update_slices` of a `ShardingCodec`
 //!   are the calls that readers and writers are made of. They take an `OpenedShard` or a
-//!   `ShardInSource`, whose `KnownShard` writes `ShardChanges`, or `GivenChanges` that are given
-//!   away: a `SliceChange` for each subchunk that changed.
+//!   `ShardInSource`, whose `KnownShard` writes a `SliceChange` for each subchunk that changed.
 #![tactic(auto)]
 
 pub use zarr_codecs_options::SubchunkWriteOrder;
-pub use zarr_sharding_arrays::{ArrayChain, ShardedChain};
-pub use zarr_sharding_cells::{ShardState, ShardingPartialEncoder};
-pub use zarr_sharding_chains::ShardingCodecBuilder;
+pub use zarr_sharding_chains::{ArrayChain, ShardedChain, ShardingCodecBuilder};
 pub use zarr_sharding_codec::{
     AskedElements, IndexedPlaces, NumberedElements, NumberedPlaces, NumberedSubchunk, OpenedShard,
     ShardInSource, ShardingCodec, TestedPart,
 };
 pub use zarr_sharding_configurations::ShardingCodecConfiguration;
-pub use zarr_sharding_decoder::{OpenedIndex, ShardingPartialDecoder, open_shard};
 pub use zarr_sharding_index::{
-    FetchedIndex, IndexLayout, PresentPair, PresentPairs, ShardingIndexLocation,
+    FetchedIndex, IndexLayout, KnownShard, PresentPair, PresentPairs, ShardingIndexLocation,
+    SliceChange,
 };
 pub use zarr_sharding_inner::{
     ChainOfMetadata, IndexChainOfMetadata, IndexCodec, InnerCodec, ShardingCodecOptions,
     TakesShardingOptions,
 };
-pub use zarr_sharding_state::{GivenChanges, KnownShard, ShardChanges, SliceChange};
+pub use zarr_sharding_partial::{
+    OpenedIndex, ShardState, ShardingPartialDecoder, ShardingPartialEncoder, open_shard,
+};

@@ -2,9 +2,10 @@
 use Rattle.std.proofs.Common.{◌≡◌, ◌∙◌, ℕ, List, [], ◌∷◌, ◌++◌, ap, sym, subst, refl, Some, Bool, true, false}
 use Rattle.std.proofs.lemmas.Bool.{false≢true}
 use Rattle.zarr_codecs_meaning.specs.Encoding.{Pair}
+use Rattle.zarr_codecs_meaning.specs.Making.{none_overlap}
 use Rattle.zarr_codecs_meaning.proofs.Lists.{some_same}
 use Rattle.zarr_sharding_changes.specs.Compactions.{compacted_to, nothing_to_gain}
-use Rattle.zarr_sharding_changes.specs.Gapless.{AreGapless, IsGapless, none_overlap}
+use Rattle.zarr_sharding_changes.specs.Gapless.{AreGapless, IsGapless}
 use Rattle.zarr_sharding_changes.specs.WorkedCompactions.{shard_of_twos}
 use Rattle.zarr_sharding_changes.specs.WorkedGapless.{first_two, first_two_and_gap, nested_twos}
 

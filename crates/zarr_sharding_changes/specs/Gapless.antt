@@ -1,23 +1,14 @@
 -- Values without gaps.
-use Rattle.std.specs.Prelude.{◌≡◌, ℕ, ◌+◌, List, [], ◌∷◌, Some, Bool, true, ◌&&◌, ◌||◌, nat_le, MatchBool, MatchOption}
-use Rattle.std.specs.List.{list_all}
+use Rattle.std.specs.Prelude.{◌≡◌, ℕ, List, [], ◌∷◌, Some, true, MatchBool, MatchOption}
 use Rattle.zarr_codecs_meaning.specs.Chains.{Chain}
 use Rattle.zarr_codecs_meaning.specs.Chains.Chain.{bytes, packbits, vlen, optional, after_array_codec, then_bytes, sharded}
 use Rattle.zarr_codecs_meaning.specs.Decoding.{decoded, is_absent, pairs_in, slice_at}
 use Rattle.zarr_codecs_meaning.specs.Encoding.{Pair, index_size}
 use Rattle.zarr_codecs_meaning.specs.Fits.{is_lossless, is_plain}
+use Rattle.zarr_codecs_meaning.specs.Making.{none_overlap}
 use Rattle.zarr_codecs_meaning.specs.Places.{Part, encoded_shape, index_shape, parts_of}
 use Rattle.zarr_codecs_meaning.specs.Types.{uint64, zero_filled}
 use Rattle.zarr_sharding_changes.specs.Compactions.{nothing_to_gain, shard_compaction}
-
--- whether the slices of two pairs share no byte: one of the pairs is absent, or one slice ends before the other one begins
-abbrev pub are_apart : Pair → Pair → Bool
-are_apart first second = (is_absent first || is_absent second) || (nat_le (first.0 + first.1) second.0 || nat_le (second.0 + second.1) first.0)
-
--- whether no two of the slices share a byte
-abbrev pub none_overlap : List Pair → Bool
-none_overlap [] = true
-none_overlap (pair ∷ pairs) = list_all (are_apart pair) pairs && none_overlap pairs
 
 -- each present slice of a shard has no gaps, by the shape of its subchunk
 abbrev pub AreGapless : (List ℕ → List ℕ → Type 0) → List ℕ → List Part → List Pair → Type 0

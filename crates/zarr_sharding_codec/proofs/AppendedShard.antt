@@ -14,16 +14,16 @@ use Rattle.zarr_codecs_meaning.proofs.Parts.{no_part}
 use Rattle.zarr_codecs_regions.proofs.Puts.{number_below}
 use Rattle.zarr_codecs_traits.specs.Indexers.{Asked, numbers_asked}
 use Rattle.zarr_codecs_traits.specs.PartWriting as writing
-use Rattle.zarr_codecs_traits.specs.PartWriting.{IsNewSlice, NewSlicesMade, is_met, part_at}
+use Rattle.zarr_codecs_traits.specs.PartWriting.{AreMet, AreNewSlices, IsNewSlice, NewSlicesMade, after_write, is_met, part_at}
 use Rattle.zarr_codecs_traits.specs.Arrays.{coded}
 use Rattle.zarr_sharding_changes.specs.Changes.{Change, appended, pairs_after}
 use Rattle.zarr_sharding_changes.specs.Compaction.{data_in}
 use Rattle.zarr_sharding_changes.specs.HeldShards.{HoldsShard, IsAppendedTo, held_in, held_shard}
 use Rattle.zarr_sharding_places.specs.Locating.{subchunk_of}
-use Rattle.zarr_sharding_state.specs.Held.{IsOpened}
-use Rattle.zarr_sharding_state.specs.Written.{IsChanged}
-use Rattle.zarr_sharding_state.proofs.Reopened.{data_of, opened_ends, reopened, split_after}
-use Rattle.zarr_sharding_state.proofs.Stands.{data_read}
+use Rattle.zarr_sharding_index.specs.Held.{IsOpened}
+use Rattle.zarr_sharding_index.specs.Written.{IsChanged}
+use Rattle.zarr_sharding_index.proofs.Reopened.{data_of, opened_ends, reopened, split_after}
+use Rattle.zarr_sharding_index.proofs.Stands.{data_read}
 use Rattle.zarr_sharding_codec.specs.Appending.{IsTestedPart}
 use Rattle.zarr_sharding_codec.specs.PartWriting.{AreChanged, AreUpdated, HasChange, IsMet, IsUpdated, Put, Stored, number_at, put_at, stored_in}
 use Rattle.zarr_sharding_codec.specs.Slices.{IsPieceStored}
@@ -119,10 +119,10 @@ are_met shape subchunk numbers cells stored changes cuts many below changed =
 pub new_slice : (inner : Chain) (exact : Bool) (elements : Elements) (piece : Piece) (slice : Option (List ℕ)) → IsPieceStored inner exact elements piece slice
     → MatchOption slice (is_fill elements.fill piece.1 ≡ true) (λ (found : List ℕ). (is_fill elements.fill piece.1 ≡ false) × IsNewSlice inner elements piece.0 piece.1 found)
 new_slice inner exact elements piece None is = is
-new_slice inner exact elements piece (Some slice) is = (is.some, record { made = λ keeps. inr (is.stands keeps); sized = is.sized; gapless = is.gapless })
+new_slice inner exact elements piece (Some slice) is = (is.some, record { made = is.made; sized = is.sized; gapless = is.gapless })
 
 pub new_slices : (subchunk : List ℕ) (inner index : Chain) (location : Location) (exact : Bool) (elements : Elements) (shape : List ℕ) (asked : Asked) (payload : Payload) (size : ℕ) (numbers : List ℕ) (old : Option (List ℕ)) (pairs : List Pair) (changes : List Change)
-    → (tested : IsTestedPart (sharded subchunk inner index location) elements shape asked payload size numbers) → IsShardOpened subchunk inner index location elements shape old pairs → AreChanged (stored_in inner exact elements old pairs) (put_at shape subchunk numbers tested.cells) changes
+    → (tested : IsTestedPart (coded (sharded subchunk inner index location) elements shape) asked payload size numbers) → IsShardOpened subchunk inner index location elements shape old pairs → AreChanged (stored_in inner exact elements old pairs) (put_at shape subchunk numbers tested.cells) changes
     → NewSlicesMade (IsNewSlice inner elements) elements.fill (writing.cells_after (coded (sharded subchunk inner index location) elements shape) old (numbers_asked shape asked) tested.cells) (parts_of shape subchunk) changes
 new_slices subchunk inner index location exact elements shape asked payload size numbers old pairs changes tested opened changed = λ i low.
     let new = put_at shape subchunk numbers tested.cells in
@@ -133,3 +133,13 @@ new_slices subchunk inner index location exact elements shape asked payload size
     let here = after_part subchunk inner index location elements shape asked payload size numbers old pairs tested opened change.0 updated.before updated.below updated.held in
     new_slice inner exact elements (piece_of elements.fill after (part_at (parts_of shape subchunk) changes i)) change.1
     (subst (λ (piece : Piece). IsPieceStored inner exact elements piece change.1) (sym here) updated.slice)
+
+-- what a write changes in a shard
+pub are_new_slices : (subchunk : List ℕ) (inner index : Chain) (location : Location) (exact : Bool) (elements : Elements) (shape : List ℕ) (asked : Asked) (payload : Payload) (size : ℕ) (numbers : List ℕ) (old : Option (List ℕ)) (pairs : List Pair) (changes : List Change)
+    → (tested : IsTestedPart (coded (sharded subchunk inner index location) elements shape) asked payload size numbers) → IsShardOpened subchunk inner index location elements shape old pairs → AreChanged (stored_in inner exact elements old pairs) (put_at shape subchunk numbers tested.cells) changes
+    → AreNewSlices inner elements (parts_of shape subchunk) (after_write (numbers_asked shape asked) old (writing.cells_after (coded (sharded subchunk inner index location) elements shape) old (numbers_asked shape asked) tested.cells)) changes
+are_new_slices subchunk inner index location exact elements shape asked payload size numbers old pairs changes tested opened changed =
+    record {
+      met = subst (λ (ns : List ℕ). AreMet ns (parts_of shape subchunk) changes) tested.numbers_are (are_met shape subchunk numbers tested.cells (stored_in inner exact elements old pairs) changes opened.cuts opened.many tested.below changed);
+      made = new_slices subchunk inner index location exact elements shape asked payload size numbers old pairs changes tested opened changed;
+    }

@@ -15,7 +15,7 @@ use Rattle.zarr_codecs_meaning.proofs.Parts.{block, box_lengths, length-parts, s
 use Rattle.zarr_codecs_regions.proofs.InsideArray.{each_place, ends_at_most, inside_places, inside_rank}
 use Rattle.zarr_codecs_traits.specs.Indexers.{shape_has, numbers_of}
 use Rattle.zarr_sharding_places.specs.Locating.{inside_of, part_shape, subchunk_box, subchunk_of}
-use Rattle.zarr_sharding_codec.specs.BoxReading.{AreMet, HasNumber, StandIn}
+use Rattle.zarr_sharding_codec.specs.BoxReading.{AreMet, HasNumber, StandIn, cut_places}
 use Rattle.zarr_sharding_codec.proofs.BoxInSubchunk.{IsAround, box_lies, inside_index, moved_place, number_at, numbers_many}
 use Rattle.zarr_sharding_codec.proofs.NumberedParts.{grid_long}
 use Rattle.zarr_sharding_codec.proofs.LocatedParts.{box_has, lies_in}
@@ -181,7 +181,7 @@ module _ (shape subchunk : List ℕ) (region cut moved target : Region) (k : ℕ
             ∙ (ap (λ p. ravel (each2 (λ p s. p - s) p region.start) region.shape) back ∙ ravel-place_at region.start region.shape t (sym is.same) low));
       }
 
-  pub piece_stands : StandIn shape subchunk (numbers_of shape region) (numbers_of region.shape target) (numbers_of (part_shape shape subchunk k) moved) k
+  pub piece_stands : StandIn (cut_places shape subchunk (numbers_of shape region)) (numbers_of region.shape target) (numbers_of (part_shape shape subchunk k) moved) k
   piece_stands =
       let lie = box_lies shape subchunk cut moved k is.around in
       let size = sizes in

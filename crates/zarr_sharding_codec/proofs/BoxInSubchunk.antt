@@ -19,17 +19,18 @@ use Rattle.zarr_codecs_meaning.proofs.PartsOnce.{number_in}
 use Rattle.zarr_codecs_meaning.proofs.Positions.{each_at}
 use Rattle.zarr_codecs_regions.proofs.InsideArray.{each_place, ends_at_most, inside_places, inside_rank}
 use Rattle.zarr_codecs_traits.specs.Indexers.{shape_has, numbers_of}
+use Rattle.zarr_codecs_traits.specs.Arrays.{coded}
 use Rattle.zarr_codecs_arrays.specs.declared.array_bytes.ArrayBytes.{ArrayBytes}
 use Rattle.zarr_codecs_arrays.specs.declared.error.CodecError.{CodecError}
 use Rattle.zarr_codecs_arrays.specs.declared.error.CodecError.TheVariants as error
 use Rattle.zarr_sharding_places.specs.Locating.{inside_of, numbered, part_shape, subchunk_box, subchunk_of}
 use Rattle.zarr_sharding_places.proofs.PartPlaces.{IsPlace, place_below, places_apart}
-use Rattle.zarr_sharding_state.specs.States.{slice_length}
+use Rattle.zarr_codecs_traits.specs.ReadBytes.{slice_length}
 use Rattle.zarr_sharding_codec.specs.BoxReading.{LieInside}
-use Rattle.zarr_sharding_codec.specs.BytesMet.{bytes_met, is_met, met_length}
-use Rattle.zarr_sharding_codec.specs.Reading.{ListsRead, place_decoded, places_decoded, shard_cells}
+use Rattle.zarr_sharding_codec.specs.BytesMet.{bytes_met, is_met}
+use Rattle.zarr_sharding_codec.specs.Reading.{ListsRead, place_decoded, places_decoded, shard_cells, subchunks_of}
 use Rattle.zarr_sharding_codec.proofs.NumberedParts.{part_fewer, part_number}
-use Rattle.zarr_sharding_codec.proofs.GivenSoFar.{sum_least, sum_next}
+use Rattle.zarr_sharding_codec.proofs.GivenSoFar.{met_before, met_length, sum_least, sum_next}
 use Rattle.zarr_sharding_codec.proofs.GroupsRead.{AskedShard, IsAskable, cell_of}
 use Rattle.zarr_sharding_codec.proofs.LocatedParts.{located_place}
 use Rattle.zarr_sharding_codec.proofs.PlaceCells.{shard_place}
@@ -161,23 +162,23 @@ module _ (s : AskedShard) (insides : List ℕ) (k : ℕ) (can : IsAskable s) (li
   number_low t low = ltb-true (get_or s.numbers t 0) (product s.shape) (each_at (λ n. nat_lt n (product s.shape) ≡ true) s.numbers t 0 (each_passes (λ n. nat_lt n (product s.shape)) s.numbers can.below) low)
 
   -- the cells are those of the subchunk
-  inside_cells : shard_cells s.inner s.elements s.shape s.subchunk s.value s.pairs s.numbers ≡ places_decoded s.inner s.elements s.value (part_shape s.shape s.subchunk k) (get_or s.pairs k absent_pair) insides
+  inside_cells : shard_cells (subchunks_of s.inner s.elements s.shape s.subchunk) s.value s.pairs s.numbers ≡ places_decoded (coded s.inner s.elements (part_shape s.shape s.subchunk k)) s.value (get_or s.pairs k absent_pair) insides
   inside_cells =
-      ap all_there (maps_alike (cell_of s) (place_decoded s.inner s.elements s.value (part_shape s.shape s.subchunk k) (get_or s.pairs k absent_pair)) s.numbers insides lie.many (λ t low.
+      ap all_there (maps_alike (cell_of s) (place_decoded (coded s.inner s.elements (part_shape s.shape s.subchunk k)) s.value (get_or s.pairs k absent_pair)) s.numbers insides lie.many (λ t low.
       let n = get_or s.numbers t 0 in
       shard_place s.inner s.elements s.shape s.subchunk s.value s.pairs n can.cuts can.many (number_low t low)
-      ∙ (ap (λ j. place_decoded s.inner s.elements s.value (part_shape s.shape s.subchunk j) (get_or s.pairs j absent_pair) (inside_of s.shape s.subchunk n)) (lie.part t low)
-      ∙ ap (place_decoded s.inner s.elements s.value (part_shape s.shape s.subchunk k) (get_or s.pairs k absent_pair)) (lie.place t low))))
+      ∙ (ap (λ j. place_decoded (coded s.inner s.elements (part_shape s.shape s.subchunk j)) s.value (get_or s.pairs j absent_pair) (inside_of s.shape s.subchunk n)) (lie.part t low)
+      ∙ ap (place_decoded (coded s.inner s.elements (part_shape s.shape s.subchunk k)) s.value (get_or s.pairs k absent_pair)) (lie.place t low))))
 
-  pub inside_read : (edges : List ℕ) (result : Result ArrayBytes CodecError) → edges ≡ part_shape s.shape s.subchunk k → ListsRead s.elements edges (places_decoded s.inner s.elements s.value edges (get_or s.pairs k absent_pair) insides) result
-      → ListsRead s.elements s.shape (shard_cells s.inner s.elements s.shape s.subchunk s.value s.pairs s.numbers) result
+  pub inside_read : (edges : List ℕ) (result : Result ArrayBytes CodecError) → edges ≡ part_shape s.shape s.subchunk k → ListsRead s.elements edges (places_decoded (coded s.inner s.elements edges) s.value (get_or s.pairs k absent_pair) insides) result
+      → ListsRead s.elements s.shape (shard_cells (subchunks_of s.inner s.elements s.shape s.subchunk) s.value s.pairs s.numbers) result
   inside_read edges result is read =
-      listed result (subst (λ (e : List ℕ). ListsRead s.elements e (places_decoded s.inner s.elements s.value e (get_or s.pairs k absent_pair) insides) result) is read) where
+      listed result (subst (λ (e : List ℕ). ListsRead s.elements e (places_decoded (coded s.inner s.elements e) s.value (get_or s.pairs k absent_pair) insides) result) is read) where
         shape : List ℕ
         shape = part_shape s.shape s.subchunk k
 
-        listed : (result : Result ArrayBytes CodecError) → ListsRead s.elements shape (places_decoded s.inner s.elements s.value shape (get_or s.pairs k absent_pair) insides) result
-            → ListsRead s.elements s.shape (shard_cells s.inner s.elements s.shape s.subchunk s.value s.pairs s.numbers) result
+        listed : (result : Result ArrayBytes CodecError) → ListsRead s.elements shape (places_decoded (coded s.inner s.elements shape) s.value (get_or s.pairs k absent_pair) insides) result
+            → ListsRead s.elements s.shape (shard_cells (subchunks_of s.inner s.elements s.shape s.subchunk) s.value s.pairs s.numbers) result
         listed (Ok bytes) h = record { cells = h.cells; is = inside_cells ∙ h.is; lists = h.lists }
         listed (Err error.Damage) h = inside_cells ∙ h
         listed (Err error.Size) h = too_large s.elements.type (product shape) (product s.shape) (part_fewer s.shape s.subchunk k can.cuts) h
@@ -186,14 +187,14 @@ module _ (s : AskedShard) (insides : List ℕ) (k : ℕ) (can : IsAskable s) (li
         listed (Err e) h = absurd h
 
   -- no other slice is read
-  pub inside_given : (before after : ℕ) → 0 < length s.numbers → after ≤ before + slice_length (get_or s.pairs k absent_pair) → after ≤ before + bytes_met s.shape s.subchunk s.numbers s.pairs
-  inside_given before after some given =
-      let f = met_length s.shape s.subchunk s.numbers s.pairs in
+  pub inside_given : (total before after : ℕ) → 0 < length s.numbers → after ≤ before + slice_length total (get_or s.pairs k absent_pair) → after ≤ before + bytes_met s.shape s.subchunk s.numbers s.pairs total
+  inside_given total before after some given =
+      let f : ℕ → ℕ = λ n. met_length s total n in
       let test = λ (number : ℕ). subchunk_of s.shape s.subchunk number == k in
       let met : is_met s.shape s.subchunk s.numbers k ≡ true = list_any_at test s.numbers 0 0 some (eq-eqb (subchunk_of s.shape s.subchunk (get_or s.numbers 0 0)) k (lie.part 0 some)) in
-      let here : f k ≡ slice_length (get_or s.pairs k absent_pair) = ap (λ (b : Bool). if b then slice_length (get_or s.pairs k absent_pair) else 0) met in
+      let here : f k ≡ slice_length total (get_or s.pairs k absent_pair) = ap (λ (b : Bool). if b then slice_length total (get_or s.pairs k absent_pair) else 0) met in
       let low = lie.below in
       let many = can.many in
       let next = sum_next f k in
-      let least = sum_least f (suc k) (length s.pairs) (omega (arith, low, many)) in
+      let least : met_before s total (suc k) ≤ bytes_met s.shape s.subchunk s.numbers s.pairs total = sum_least f (suc k) (length s.pairs) (omega (arith, low, many)) in
       omega (arith, given, here, next, least)

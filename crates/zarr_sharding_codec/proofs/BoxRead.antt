@@ -17,16 +17,17 @@ use Rattle.zarr_sharding_places.specs.Boxed.{ShowsBoxes}
 use Rattle.zarr_sharding_places.specs.Locating.{inside_of, part_shape, subchunk_of}
 use Rattle.zarr_sharding_places.specs.declared.boxed.BoxedElements.{BoxedElements}
 use Rattle.zarr_sharding_places.proofs.PutPlaces.{length-put, put_cases}
-use Rattle.zarr_sharding_state.specs.States.{slice_length}
-use Rattle.zarr_sharding_codec.specs.BoxReading.{AreMet, StandIn}
-use Rattle.zarr_sharding_codec.specs.BytesMet.{bytes_met, is_met, met_length}
-use Rattle.zarr_sharding_codec.specs.Reading.{ListsRead, places_decoded, shard_cells}
+use Rattle.zarr_codecs_traits.specs.ReadBytes.{slice_length}
+use Rattle.zarr_sharding_codec.specs.BoxReading.{AreMet, StandIn, cut_places}
+use Rattle.zarr_sharding_codec.specs.BytesMet.{bytes_met, is_met}
+use Rattle.zarr_sharding_codec.specs.Reading.{ListsRead, places_decoded, shard_cells, subchunks_of}
 use Rattle.zarr_sharding_codec.proofs.AllThere.{all_found, length-there, lost_one, one_lost, there_at}
 use Rattle.zarr_sharding_codec.proofs.NumberedParts.{part_fewer}
-use Rattle.zarr_sharding_codec.proofs.GivenSoFar.{met_before, sum_least, sum_next}
+use Rattle.zarr_sharding_codec.proofs.GivenSoFar.{met_before, met_length, sum_least, sum_next}
 use Rattle.zarr_sharding_codec.proofs.GroupsRead.{AskedShard, IsAskable, cell_of, piece_cell, piece_cells}
 use Rattle.zarr_sharding_codec.proofs.PlaceCells.{shard_place}
 use Rattle.zarr_sharding_codec.proofs.StoredLoop.{too_large}
+use Rattle.zarr_codecs_traits.specs.Arrays.{coded}
 
 abbrev pub number_at : AskedShard → ℕ → ℕ
 number_at s t = get_or s.numbers t 0
@@ -48,7 +49,7 @@ box_begun s met all shows = record {
 
 -- all of the subchunks were read
 pub box_done : (s : AskedShard) (met : List ℕ) (all : BoxedElements) (j : ℕ) → AreMet s.shape s.subchunk s.numbers met → length met ≤ j → (so_far : BoxSoFar s met all j)
-    → shard_cells s.inner s.elements s.shape s.subchunk s.value s.pairs s.numbers ≡ Some so_far.cells
+    → shard_cells (subchunks_of s.inner s.elements s.shape s.subchunk) s.value s.pairs s.numbers ≡ Some so_far.cells
 box_done s met all j are past so_far =
     all_found (cell_of s) s.numbers so_far.cells s.elements.fill so_far.whole (λ t low.
     let has = are.all t low in
@@ -57,15 +58,15 @@ box_done s met all j are past so_far =
 
 -- what is read is the same where the source holds the same as before
 pub box_before : (s : AskedShard) (one other : Option (List ℕ)) (edges : List ℕ) (k : ℕ) (insides : List ℕ) (result : Result ArrayBytes CodecError) → one ≡ other → edges ≡ part_shape s.shape s.subchunk k
-    → ListsRead s.elements edges (places_decoded s.inner s.elements (unwrap_or other []) edges (get_or s.pairs k absent_pair) insides) result
-    → ListsRead s.elements (part_shape s.shape s.subchunk k) (places_decoded s.inner s.elements (unwrap_or one []) (part_shape s.shape s.subchunk k) (get_or s.pairs k absent_pair) insides) result
+    → ListsRead s.elements edges (places_decoded (coded s.inner s.elements edges) (unwrap_or other []) (get_or s.pairs k absent_pair) insides) result
+    → ListsRead s.elements (part_shape s.shape s.subchunk k) (places_decoded (coded s.inner s.elements (part_shape s.shape s.subchunk k)) (unwrap_or one []) (get_or s.pairs k absent_pair) insides) result
 box_before s one other edges k insides result same is read =
-    subst (λ (o : Option (List ℕ)). ListsRead s.elements (part_shape s.shape s.subchunk k) (places_decoded s.inner s.elements (unwrap_or o []) (part_shape s.shape s.subchunk k) (get_or s.pairs k absent_pair) insides) result) (sym same)
-    (subst (λ (e : List ℕ). ListsRead s.elements e (places_decoded s.inner s.elements (unwrap_or other []) e (get_or s.pairs k absent_pair) insides) result) is read)
+    subst (λ (o : Option (List ℕ)). ListsRead s.elements (part_shape s.shape s.subchunk k) (places_decoded (coded s.inner s.elements (part_shape s.shape s.subchunk k)) (unwrap_or o []) (get_or s.pairs k absent_pair) insides) result) (sym same)
+    (subst (λ (e : List ℕ). ListsRead s.elements e (places_decoded (coded s.inner s.elements e) (unwrap_or other []) (get_or s.pairs k absent_pair) insides) result) is read)
 
 -- ---- one subchunk
 
-module _ (s : AskedShard) (positions insides : List ℕ) (k : ℕ) (can : IsAskable s) (stand : StandIn s.shape s.subchunk s.numbers positions insides k) where
+module _ (s : AskedShard) (positions insides : List ℕ) (k : ℕ) (can : IsAskable s) (stand : StandIn (cut_places s.shape s.subchunk s.numbers) positions insides k) where
   -- the cell at a position is that of its subchunk
   cell_there : (i : ℕ) → i < length positions → cell_of s (number_at s (get_or positions i 0)) ≡ piece_cell s k (get_or insides i 0)
   cell_there i low =
@@ -108,7 +109,7 @@ module _ (s : AskedShard) (positions insides : List ℕ) (k : ℕ) (can : IsAska
       }
 
   -- a subchunk that isn't read
-  pub box_unread : (e : CodecError) → ListsRead s.elements (part_shape s.shape s.subchunk k) (piece_cells s k insides) (Err e) → ListsRead s.elements s.shape (shard_cells s.inner s.elements s.shape s.subchunk s.value s.pairs s.numbers) (Err e)
+  pub box_unread : (e : CodecError) → ListsRead s.elements (part_shape s.shape s.subchunk k) (piece_cells s k insides) (Err e) → ListsRead s.elements s.shape (shard_cells (subchunks_of s.inner s.elements s.shape s.subchunk) s.value s.pairs s.numbers) (Err e)
   box_unread error.Damage lost =
       let one = lost_one (piece_cell s k) insides lost in
       let under = one.below in
@@ -123,23 +124,23 @@ module _ (s : AskedShard) (positions insides : List ℕ) (k : ℕ) (can : IsAska
 -- ---- how many bytes were given
 
 -- no more bytes were given than the slices have of the subchunks before a bound, and those that are left stand later
-pub record GivenBefore (s : AskedShard) (met : List ℕ) (before now j : ℕ) : Type 0 where
+pub record GivenBefore (s : AskedShard) (total : ℕ) (met : List ℕ) (before now j : ℕ) : Type 0 where
   pub bound : ℕ
   pub within : bound ≤ length s.pairs
   pub later : (i : ℕ) → j ≤ i → i < length met → bound ≤ get_or met i 0
-  pub given : now ≤ before + met_before s bound
+  pub given : now ≤ before + met_before s total bound
 
-pub given_begun : (s : AskedShard) (met : List ℕ) (before : ℕ) → GivenBefore s met before before 0
-given_begun s met before = record { bound = 0; within = omega arith; later = λ i less low. omega arith; given = omega arith }
+pub given_begun : (s : AskedShard) (total : ℕ) (met : List ℕ) (before : ℕ) → GivenBefore s total met before before 0
+given_begun s total met before = record { bound = 0; within = omega arith; later = λ i less low. omega arith; given = omega arith }
 
-pub given_next : (s : AskedShard) (met positions insides : List ℕ) (k before now after j : ℕ) → IsAskable s → AreMet s.shape s.subchunk s.numbers met → StandIn s.shape s.subchunk s.numbers positions insides k → 0 < length positions → j < length met → get_or met j 0 ≡ k
-    → GivenBefore s met before now j → after ≤ now + slice_length (get_or s.pairs k absent_pair) → GivenBefore s met before after (j + 1)
-given_next s met positions insides k before now after j can are stand some low here was given =
-    let f = met_length s.shape s.subchunk s.numbers s.pairs in
+pub given_next : (s : AskedShard) (total : ℕ) (met positions insides : List ℕ) (k before now after j : ℕ) → IsAskable s → AreMet s.shape s.subchunk s.numbers met → StandIn (cut_places s.shape s.subchunk s.numbers) positions insides k → 0 < length positions → j < length met → get_or met j 0 ≡ k
+    → GivenBefore s total met before now j → after ≤ now + slice_length total (get_or s.pairs k absent_pair) → GivenBefore s total met before after (j + 1)
+given_next s total met positions insides k before now after j can are stand some low here was given =
+    let f : ℕ → ℕ = λ n. met_length s total n in
     let t = get_or positions 0 0 in
     let test = λ (number : ℕ). subchunk_of s.shape s.subchunk number == k in
     let met_k : is_met s.shape s.subchunk s.numbers k ≡ true = list_any_at test s.numbers t 0 (stand.low 0 some) (eq-eqb (subchunk_of s.shape s.subchunk (number_at s t)) k (stand.part 0 some)) in
-    let size : f k ≡ slice_length (get_or s.pairs k absent_pair) = ap (λ (b : Bool). if b then slice_length (get_or s.pairs k absent_pair) else 0) met_k in
+    let size : f k ≡ slice_length total (get_or s.pairs k absent_pair) = ap (λ (b : Bool). if b then slice_length total (get_or s.pairs k absent_pair) else 0) met_k in
     let so_far = was.given in
     let first = was.later j (omega arith) low in
     let least = sum_least f was.bound k (omega (arith, first, here)) in
@@ -153,8 +154,8 @@ given_next s met positions insides k before now after j can are stand some low h
       given = omega (arith, given, so_far, least, next, size);
     }
 
-pub given_done : (s : AskedShard) (met : List ℕ) (before now j : ℕ) → GivenBefore s met before now j → now ≤ before + bytes_met s.shape s.subchunk s.numbers s.pairs
-given_done s met before now j was =
+pub given_done : (s : AskedShard) (total : ℕ) (met : List ℕ) (before now j : ℕ) → GivenBefore s total met before now j → now ≤ before + bytes_met s.shape s.subchunk s.numbers s.pairs total
+given_done s total met before now j was =
     let so_far = was.given in
-    let least = sum_least (met_length s.shape s.subchunk s.numbers s.pairs) was.bound (length s.pairs) was.within in
+    let least : met_before s total was.bound ≤ bytes_met s.shape s.subchunk s.numbers s.pairs total = sum_least (λ n. met_length s total n) was.bound (length s.pairs) was.within in
     omega (arith, so_far, least)

@@ -15,10 +15,10 @@ use Rattle.zarr_sharding_changes.specs.Changes.{Change}
 use Rattle.zarr_sharding_places.specs.Groups.{places_in}
 use Rattle.zarr_sharding_places.specs.Locating.{asked_place, asked_places, inside_of, part_shape, subchunk_of}
 use Rattle.zarr_sharding_places.specs.declared.locating.AskedPlace.{AskedPlace}
-use Rattle.zarr_sharding_state.specs.States.{slice_length}
-use Rattle.zarr_sharding_state.specs.declared.writing.SliceChange.{SliceChange}
-use Rattle.zarr_sharding_codec.specs.BoxReading.{AreMet, HasNumber, IsCutGroup, IsCutOut, StandIn}
-use Rattle.zarr_sharding_codec.specs.PartWriting.{AreChanged, AreUpdated, HasChange, IsGroupUpdated, UpdatesGroup, group_put, insides, number_at, positions, stored_in}
+use Rattle.zarr_codecs_traits.specs.ReadBytes.{slice_length}
+use Rattle.zarr_sharding_index.specs.declared.slice_changes.SliceChange.{SliceChange}
+use Rattle.zarr_sharding_codec.specs.BoxReading.{AreMet, HasNumber, IsCutGroup, IsCutOut, StandIn, cut_places}
+use Rattle.zarr_sharding_codec.specs.PartWriting.{AreChanged, AreUpdated, HasChange, IsGroupUpdated, UpdatesGroup, given_group, group_put, insides, number_at, positions, stored_in}
 use Rattle.zarr_sharding_codec.specs.declared.box_reading.BoxCut.{BoxCut}
 use Rattle.zarr_sharding_codec.proofs.BoxInSubchunk.{numbers_many}
 use Rattle.zarr_sharding_codec.proofs.BoxRead.{GivenBefore, given_next}
@@ -114,8 +114,8 @@ module _ (s : AskedShard) (region : Region) (cut : BoxCut) (n : ℕ) (boxed : s.
   abbrev k : ℕ
   k = cut.inside.number
 
-  stand : StandIn s.shape s.subchunk s.numbers ts ns k
-  stand = subst (λ (ms : List ℕ). StandIn s.shape s.subchunk ms ts ns k) (sym boxed) (subst (λ (m : ℕ). StandIn s.shape s.subchunk (numbers_of s.shape region) ts ns m) (sym out.number) out.stand)
+  stand : StandIn (cut_places s.shape s.subchunk s.numbers) ts ns k
+  stand = subst (λ (ms : List ℕ). StandIn (cut_places s.shape s.subchunk ms) ts ns k) (sym boxed) (subst (λ (m : ℕ). StandIn (cut_places s.shape s.subchunk (numbers_of s.shape region)) ts ns m) (sym out.number) out.stand)
 
   some : 0 < length ts
   some =
@@ -154,17 +154,17 @@ module _ (s : AskedShard) (region : Region) (cut : BoxCut) (n : ℕ) (boxed : s.
   cut_below met j many are low here = let below = are.below j low in let number = out.number in omega (arith, many, below, here, number)
 
   -- its slice alone is given for it
-  pub cut_given : (met : List ℕ) (before now after j : ℕ) → IsAskable s → AreMet s.shape s.subchunk s.numbers met → j < length met → get_or met j 0 ≡ n → GivenBefore s met before now j
-      → after ≤ now + slice_length (get_or s.pairs k absent_pair) → GivenBefore s met before after (j + 1)
-  cut_given met before now after j can are low here was given = given_next s met ts ns k before now after j can are stand some low (here ∙ sym out.number) was given
+  pub cut_given : (total : ℕ) (met : List ℕ) (before now after j : ℕ) → IsAskable s → AreMet s.shape s.subchunk s.numbers met → j < length met → get_or met j 0 ≡ n → GivenBefore s total met before now j
+      → after ≤ now + slice_length total (get_or s.pairs k absent_pair) → GivenBefore s total met before after (j + 1)
+  cut_given total met before now after j can are low here was given = given_next s total met ts ns k before now after j can are stand some low (here ∙ sym out.number) was given
 
   -- what is stored of it is the same where the source holds the same as before
   pub cut_before : (exact : Bool) (one other : Option (List ℕ)) (cells : List Cell) (result : Result SliceChange CodecError) → one ≡ other
-      → UpdatesGroup (stored_in s.inner exact s.elements other s.pairs) cut.inside.shape.items k (group_at s k) cells result
-      → UpdatesGroup (stored_in s.inner exact s.elements one s.pairs) (part_shape s.shape s.subchunk k) k (group_at s k) cells result
+      → UpdatesGroup (stored_in s.inner exact s.elements other s.pairs) (given_group cut.inside.shape.items k (group_at s k) cells) result
+      → UpdatesGroup (stored_in s.inner exact s.elements one s.pairs) (given_group (part_shape s.shape s.subchunk k) k (group_at s k) cells) result
   cut_before exact one other cells result same updates =
-      subst (λ (es : List ℕ). UpdatesGroup (stored_in s.inner exact s.elements one s.pairs) es k (group_at s k) cells result) (out.edges ∙ ap (part_shape s.shape s.subchunk) (sym out.number))
-      (subst (λ (o : Option (List ℕ)). UpdatesGroup (stored_in s.inner exact s.elements o s.pairs) cut.inside.shape.items k (group_at s k) cells result) (sym same) updates)
+      subst (λ (es : List ℕ). UpdatesGroup (stored_in s.inner exact s.elements one s.pairs) (given_group es k (group_at s k) cells) result) (out.edges ∙ ap (part_shape s.shape s.subchunk) (sym out.number))
+      (subst (λ (o : Option (List ℕ)). UpdatesGroup (stored_in s.inner exact s.elements o s.pairs) (given_group cut.inside.shape.items k (group_at s k) cells) result) (sym same) updates)
 
 -- what is put at them is what is put at the box there
 pub group_cut : (fill : Cell) (lengths : List ℕ) (cut : BoxCut) (group : List AskedPlace) (cells before : List Cell) → IsCutGroup lengths cut group
@@ -186,7 +186,7 @@ none_updated s exact cells met = record { are = tt; many = refl; within = omega 
 
 -- one subchunk more
 pub box_updated : (s : AskedShard) (exact : Bool) (cells : List Cell) (met : List ℕ) (changes : List Change) (change : Change) (j k : ℕ) → IsWholeGroup s cells k (group_at s k) → j < length met → get_or met j 0 ≡ k → BoxUpdated s exact cells met changes j
-    → IsGroupUpdated (stored_as s exact) (part_shape s.shape s.subchunk k) k (group_at s k) cells change → BoxUpdated s exact cells met (changes ++ change ∷ []) (j + 1)
+    → IsGroupUpdated (stored_as s exact) (given_group (part_shape s.shape s.subchunk k) k (group_at s k) cells) change → BoxUpdated s exact cells met (changes ++ change ∷ []) (j + 1)
 box_updated s exact cells met changes change j k whole below here so_far is =
     let long = length-append changes (change ∷ []) in
     let many = so_far.many in

@@ -13,13 +13,13 @@ use Rattle.zarr_codecs_arrays.specs.declared.error.CodecError.{CodecError}
 use Rattle.zarr_codecs_arrays.specs.declared.error.CodecError.TheVariants as error
 use Rattle.zarr_codecs_traits.specs.Arrays.{coded}
 use Rattle.zarr_codecs_traits.specs.Outcomes.{Decodes}
-use Rattle.zarr_sharding_index.specs.Held.{DecodesIndex, IsIndexHeld}
+use Rattle.zarr_sharding_index.specs.HeldIndex.{DecodesIndex, IsIndexHeld}
 use Rattle.zarr_sharding_places.specs.Locating.{part_shape}
 use Rattle.zarr_sharding_places.specs.Pieces.{piece_decoded, shard_decoded}
 use Rattle.zarr_sharding_places.proofs.PutPlaces.{length-put}
 use Rattle.zarr_sharding_places.proofs.ReadPieces.{ShowsPieces, lost_shard, piece_count, show_more}
 use Rattle.zarr_sharding_codec.specs.Fitting.{Suits}
-use Rattle.zarr_sharding_codec.specs.Reading.{DecodesPieces, Lists}
+use Rattle.zarr_sharding_codec.specs.Reading.{DecodesPieces, Lists, subchunks_of}
 use Rattle.zarr_sharding_codec.proofs.NumberedParts.{part_at, part_fewer, part_is, part_number}
 use Rattle.zarr_sharding_codec.proofs.StoredLoop.{IsSubchunk, too_large}
 
@@ -57,7 +57,7 @@ decode_step inner elements shape subchunk value pairs n numbers cells piece is a
 
 -- a subchunk that isn't decoded
 pub decode_lost : (inner : Chain) (elements : Elements) (shape subchunk value : List ℕ) (pairs : List Pair) (n : ℕ) (e : CodecError) → IsSubchunk shape subchunk n → Lists elements (part_shape shape subchunk n) (piece_decoded inner elements value (part_shape shape subchunk n) (get_or pairs n absent_pair)) (Err e)
-    → DecodesPieces inner elements shape subchunk value pairs (Err e)
+    → DecodesPieces (subchunks_of inner elements shape subchunk) value pairs (Err e)
 decode_lost inner elements shape subchunk value pairs n error.Damage is lost =
     lost_shard inner elements shape subchunk value pairs n (subchunk_number shape subchunk n is) (ap (λ (s : List ℕ). piece_decoded inner elements value s (get_or pairs n absent_pair)) (subchunk_shape shape subchunk n is) ∙ lost)
 decode_lost inner elements shape subchunk value pairs n error.Size is large = too_large elements.type (product (part_shape shape subchunk n)) (product shape) (part_fewer shape subchunk n is.cuts) large
@@ -87,7 +87,7 @@ pub even_index : (shape subchunk : List ℕ) → product (index_shape shape subc
 even_index shape subchunk = let two = index_product shape subchunk in omega (arith, two)
 
 pub shard_read : (subchunk : List ℕ) (inner index : Chain) (location : Location) (elements : Elements) (shape value : List ℕ) (pairs : List Pair) (result : Result ArrayBytes CodecError) → fits (sharded subchunk inner index location) elements.type shape ≡ true
-    → IsIndexHeld index location (index_shape shape subchunk) value pairs → DecodesPieces inner elements shape subchunk value pairs result → Decodes (coded (sharded subchunk inner index location) elements shape) value result
+    → IsIndexHeld index location (index_shape shape subchunk) value pairs → DecodesPieces (subchunks_of inner elements shape subchunk) value pairs result → Decodes (coded (sharded subchunk inner index location) elements shape) value result
 shard_read subchunk inner index location elements shape value pairs (Ok bytes) fit held found = record {
   cells = found.cells;
   fit = fit;

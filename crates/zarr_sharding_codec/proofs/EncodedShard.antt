@@ -10,11 +10,12 @@ use Rattle.zarr_codecs_meaning.specs.Fits.{bound_of, fits, fixed_of, is_bound_wi
 use Rattle.zarr_codecs_meaning.specs.Laws.{IsLawfulChain}
 use Rattle.zarr_codecs_meaning.specs.Payloads.{Payload}
 use Rattle.zarr_codecs_meaning.specs.Places.{Part, index_shape, parts_of}
-use Rattle.zarr_codecs_meaning.specs.Refusals.{IsMadeOf, SlicesMade}
+use Rattle.zarr_codecs_meaning.specs.Making.{IsMadeOf, SlicesMade}
 use Rattle.zarr_codecs_meaning.specs.Standing.{Stands}
 use Rattle.zarr_codecs_meaning.specs.Types.{Cell, Elements, uint64, zero_filled}
 use Rattle.zarr_codecs_meaning.proofs.Bounds.{plus, plus_within, size_at_most, size_within, slices_within}
 use Rattle.zarr_codecs_meaning.proofs.Lists.{some_same}
+use Rattle.zarr_codecs_meaning.proofs.Making.{pairs_in_row, row_apart}
 use Rattle.zarr_codecs_meaning.proofs.Fitting.{length-joined}
 use Rattle.zarr_codecs_meaning.proofs.Shards.{SlicesStand, length-pairs_from, length-slices, put}
 use Rattle.zarr_codecs_arrays.specs.Outcomes.{IsValid}
@@ -27,7 +28,8 @@ use Rattle.zarr_sharding_index.proofs.StoredIndex.{index_below}
 use Rattle.zarr_sharding_codec.proofs.FitParts.{index_fit}
 use Rattle.zarr_sharding_codec.proofs.Gapless.{NoneGaps, assembled_gapless, base_small}
 use Rattle.zarr_sharding_codec.specs.Assembled.{Assembles, IsAssembled}
-use Rattle.zarr_sharding_codec.specs.Slices.{ArePiecesStored, IsSlice, StoresPieces}
+use Rattle.zarr_sharding_index.specs.Held.{index_coding}
+use Rattle.zarr_sharding_codec.specs.Slices.{ArePiecesStored, IsSlice, StoresPieces, piece_coding}
 
 -- slices that are stored stand as each of them does
 slices_stand : (inner : Chain) (exact : Bool) (elements : Elements) (relation : List ℕ → List ℕ → List Cell → Type 0) (pieces : List Piece) (stored : List (Option (List ℕ)))
@@ -49,7 +51,7 @@ slices_made inner exact elements [] [] are = tt
 slices_made inner exact elements [] (s ∷ ss) are = elim are [ ]
 slices_made inner exact elements (p ∷ ps) [] are = elim are [ ]
 slices_made inner exact elements (p ∷ ps) (None ∷ ss) are = (are.0, slices_made inner exact elements ps ss are.1)
-slices_made inner exact elements (p ∷ ps) (Some s ∷ ss) are = ((are.0.some, λ keeps. inr (are.0.stands keeps)), slices_made inner exact elements ps ss are.1)
+slices_made inner exact elements (p ∷ ps) (Some s ∷ ss) are = ((are.0.some, are.0.made), slices_made inner exact elements ps ss are.1)
 
 stored_exactly : (inner : Chain) (exact : Bool) (elements : Elements) (pieces : List Piece) (stored : List (Option (List ℕ))) → exact ≡ true → ArePiecesStored inner exact elements pieces stored → stored_pieces (encoded inner elements) elements.fill pieces ≡ Some stored
 stored_exactly inner exact elements [] [] is are = refl
@@ -85,7 +87,7 @@ pub record IsMade (subchunk : List ℕ) (inner index : Chain) (location : Locati
   pub small : index_size index (index_shape shape subchunk) < 2 ^ 63
 
 pub shard_encoded : (subchunk : List ℕ) (inner index : Chain) (location : Location) (row one two : Bool) (elements : Elements) (shape value : List ℕ) (payload : Payload) (cells : List Cell) (stored : List (Option (List ℕ))) → IsMade subchunk inner index location elements shape cells
-    → IsValid elements.type payload (product shape) cells → ArePiecesStored inner one elements (pieces_of elements.fill cells (parts_of shape subchunk)) stored → IsAssembled index two location (index_shape shape subchunk) stored value → length value < 2 ^ 63
+    → IsValid elements.type payload (product shape) cells → ArePiecesStored inner one elements (pieces_of elements.fill cells (parts_of shape subchunk)) stored → IsAssembled (index_coding index two location (index_shape shape subchunk)) stored value → length value < 2 ^ 63
     → IsEncoded (coded (sharded subchunk inner index location) elements shape) (row && (one && two)) payload cells value
 shard_encoded subchunk inner index location row one two elements shape value payload cells stored made valid are assembled short =
     let pairs_shape = index_shape shape subchunk in
@@ -109,6 +111,20 @@ shard_encoded subchunk inner index location row one two elements shape value pay
     record {
       valid = valid;
       fit = made.fit;
+      made = (
+        stored,
+        slices_made inner one elements pieces stored are,
+        record {
+          pairs = pairs_from base stored;
+          «data» = slices;
+          index_bytes = assembled.index_bytes;
+          are = pairs_in_row base slices stored [] base refl (omega arith) low;
+          apart = row_apart base stored;
+          whole = refl;
+          written = written.made;
+          is = assembled.is;
+        },
+      );
       encodes = λ exact.
           let both = and_parts one two (and_parts row (one && two) exact).1 in
           ap (option_and_then (shard_of (encoded index (zero_filled uint64) pairs_shape) location size)) (stored_exactly inner one elements pieces stored both.0 are)
@@ -130,7 +146,7 @@ shard_encoded subchunk inner index location row one two elements shape value pay
 
 -- where what is stored of the subchunks is refused, so is the array
 pub pieces_refused : (subchunk : List ℕ) (inner index : Chain) (location : Location) (exact all : Bool) (elements : Elements) (shape : List ℕ) (base : ℕ) (payload : Payload) (cells : List Cell) (e : CodecError) → fits (sharded subchunk inner index location) elements.type shape ≡ true
-    → IsValid elements.type payload (product shape) cells → StoresPieces inner exact elements shape (pieces_of elements.fill cells (parts_of shape subchunk)) base (Err e) → Encodes (coded (sharded subchunk inner index location) elements shape) all payload (Err e)
+    → IsValid elements.type payload (product shape) cells → StoresPieces (piece_coding inner exact elements) shape (pieces_of elements.fill cells (parts_of shape subchunk)) base (Err e) → Encodes (coded (sharded subchunk inner index location) elements shape) all payload (Err e)
 pieces_refused subchunk inner index location exact all elements shape base payload cells error.Codec fit valid h = (cells, record { valid = valid; fit = fit; is = inl h })
 pieces_refused subchunk inner index location exact all elements shape base payload cells error.Size fit valid (inl h) = inl h
 pieces_refused subchunk inner index location exact all elements shape base payload cells error.Size fit valid (inr h) = inr (cells, record { valid = valid; fit = fit; is = inl h })
@@ -154,7 +170,7 @@ slices_many inner exact elements shape subchunk cells stored are = stored_many i
 
 pub assembled_encodes : (subchunk : List ℕ) (inner index : Chain) (location : Location) (row one two : Bool) (elements : Elements) (shape : List ℕ) (payload : Payload) (cells : List Cell) (stored : List (Option (List ℕ))) (result : Result (Vec ℕ Global) CodecError)
     → IsLawfulChain inner → IsLawfulChain index → fits (sharded subchunk inner index location) elements.type shape ≡ true → IsValid elements.type payload (product shape) cells
-    → ArePiecesStored inner one elements (pieces_of elements.fill cells (parts_of shape subchunk)) stored → Assembles index two location (index_shape shape subchunk) stored result
+    → ArePiecesStored inner one elements (pieces_of elements.fill cells (parts_of shape subchunk)) stored → Assembles (index_coding index two location (index_shape shape subchunk)) stored result
     → Encodes (coded (sharded subchunk inner index location) elements shape) (row && (one && two)) payload result
 assembled_encodes subchunk inner index location row one two elements shape payload cells stored (Ok value) inner_lawful index_lawful fit valid are h =
     let made : IsMade subchunk inner index location elements shape cells = record { inner_lawful = inner_lawful; index_lawful = index_lawful; fit = fit; small = (index_below index (index_shape shape subchunk) (index_part subchunk inner index location elements shape fit)).1 } in

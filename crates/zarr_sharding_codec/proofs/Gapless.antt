@@ -1,52 +1,21 @@
 -- A shard put together from slices in a row has no gaps.
-use Rattle.std.proofs.Common.{◌≡◌, ◌∙◌, ℕ, ◌+◌, ◌^◌, ◌<◌, ◌≤◌, ◌-◌, List, [], ◌∷◌, length, map, ap, sym, refl, subst, arith, inl, inr, Option, Some, None, Bool, true, false}
-use Rattle.std.specs.Prelude.{◌||◌, MatchBool, MatchOption, nat_le}
-use Rattle.std.specs.List.{list_all}
-use Rattle.std.proofs.Math.Bool.{or-true}
-use Rattle.std.proofs.lemmas.Bool.{and_from, le-leb, or_left, or_right}
+use Rattle.std.proofs.Common.{◌≡◌, ◌∙◌, ℕ, ◌+◌, ◌^◌, ◌<◌, ◌≤◌, ◌-◌, List, [], ◌∷◌, length, map, ap, sym, refl, subst, arith, inl, inr, Option, Bool, true, false}
+use Rattle.std.specs.Prelude.{MatchBool, MatchOption}
 use Rattle.zarr_codecs_meaning.specs.Chains.{Chain, Location, sharded}
 use Rattle.zarr_codecs_meaning.specs.Chains.Location.{at_start, at_end}
 use Rattle.zarr_codecs_meaning.specs.Decoding.{decoded, is_absent, slice_at}
-use Rattle.zarr_codecs_meaning.specs.Encoding.{Pair, absent_pair, base_of, index_size, joined, joined_slices, pairs_from, piece_of, pieces_of}
+use Rattle.zarr_codecs_meaning.specs.Encoding.{Pair, base_of, index_size, joined, joined_slices, pairs_from, piece_of, pieces_of}
 use Rattle.zarr_codecs_meaning.specs.Places.{Part, index_shape, parts_of}
 use Rattle.zarr_codecs_meaning.specs.Standing.{PieceStands, PiecesStand, ShardStands}
 use Rattle.zarr_codecs_meaning.specs.Types.{Cell, absent, uint64, zero_filled}
 use Rattle.zarr_codecs_meaning.proofs.Fitting.{length-joined}
 use Rattle.zarr_codecs_meaning.proofs.KeptShards.{pairs_found}
+use Rattle.zarr_codecs_meaning.proofs.Making.{row_apart}
 use Rattle.zarr_codecs_meaning.proofs.Shards.{SlicesStand, put, slice_found}
-use Rattle.zarr_sharding_changes.specs.Gapless.{AreGapless, IsGapless, are_apart, none_overlap}
+use Rattle.zarr_sharding_changes.specs.Gapless.{AreGapless, IsGapless}
 use Rattle.zarr_sharding_compaction.proofs.Once.{IsItself, laid_gains_nothing, piece_for, stand_themselves}
 use Rattle.zarr_sharding_codec.specs.Assembled.{IsAssembled}
-
--- ---- slices in a row are apart
-
-absent_apart : (pairs : List Pair) → list_all (are_apart absent_pair) pairs ≡ true
-absent_apart [] = refl
-absent_apart (pair ∷ pairs) = absent_apart pairs
-
--- slices in a row from an offset are apart from each that ends before it
-later_apart : (pair : Pair) (offset : ℕ) (stored : List (Option (List ℕ))) → pair.0 + pair.1 ≤ offset → list_all (are_apart pair) (pairs_from offset stored) ≡ true
-later_apart pair offset [] ends = refl
-later_apart pair offset (None ∷ stored) ends =
-    and_from (are_apart pair absent_pair) (list_all (are_apart pair) (pairs_from (offset + 0) stored))
-    (or_left (is_absent pair || true) (nat_le (pair.0 + pair.1) absent_pair.0 || nat_le (absent_pair.0 + absent_pair.1) pair.0) (or-true (is_absent pair)))
-    (later_apart pair (offset + 0) stored (omega (arith, ends)))
-later_apart pair offset (Some slice ∷ stored) ends =
-    let next : Pair = (offset, length slice) in
-    and_from (are_apart pair next) (list_all (are_apart pair) (pairs_from (offset + length slice) stored))
-    (or_right (is_absent pair || is_absent next) (nat_le (pair.0 + pair.1) offset || nat_le (offset + length slice) pair.0)
-    (or_left (nat_le (pair.0 + pair.1) offset) (nat_le (offset + length slice) pair.0) (le-leb (pair.0 + pair.1) offset ends)))
-    (later_apart pair (offset + length slice) stored (omega (arith, ends)))
-
-row_apart : (offset : ℕ) (stored : List (Option (List ℕ))) → none_overlap (pairs_from offset stored) ≡ true
-row_apart offset [] = refl
-row_apart offset (None ∷ stored) =
-    let others = pairs_from (offset + 0) stored in
-    and_from (list_all (are_apart absent_pair) others) (none_overlap others) (absent_apart others) (row_apart (offset + 0) stored)
-row_apart offset (Some slice ∷ stored) =
-    let next : Pair = (offset, length slice) in
-    let others = pairs_from (offset + length slice) stored in
-    and_from (list_all (are_apart next) others) (none_overlap others) (later_apart next (offset + length slice) stored (omega arith)) (row_apart (offset + length slice) stored)
+use Rattle.zarr_sharding_index.specs.Held.{index_coding}
 
 -- ---- slices without gaps
 
@@ -81,7 +50,7 @@ base_small at_start size = omega arith
 base_small at_end size = omega arith
 
 pub assembled_gapless : (subchunk : List ℕ) (inner index : Chain) (location : Location) (exact : Bool) (shape : List ℕ) (fill : Cell) (cells : List Cell) (stored : List (Option (List ℕ))) (value : List ℕ) → index_size index (index_shape shape subchunk) < 2 ^ 63 → length value < 2 ^ 63
-    → IsAssembled index exact location (index_shape shape subchunk) stored value → SlicesStand (NoneGaps inner) fill (pieces_of fill cells (parts_of shape subchunk)) stored → IsGapless (sharded subchunk inner index location) shape value
+    → IsAssembled (index_coding index exact location (index_shape shape subchunk)) stored value → SlicesStand (NoneGaps inner) fill (pieces_of fill cells (parts_of shape subchunk)) stored → IsGapless (sharded subchunk inner index location) shape value
 assembled_gapless subchunk inner index location exact shape fill cells stored value small short assembled none = λ keeps.
     let pairs_shape = index_shape shape subchunk in
     let size = index_size index pairs_shape in

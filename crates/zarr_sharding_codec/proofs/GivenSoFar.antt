@@ -16,8 +16,8 @@ use Rattle.zarr_codecs_meaning.proofs.Lists.{Each}
 use Rattle.zarr_sharding_places.specs.Groups.{StartsAnother, no_place}
 use Rattle.zarr_sharding_places.specs.Locating.{subchunk_of}
 use Rattle.zarr_sharding_places.specs.declared.locating.AskedPlace.{AskedPlace}
-use Rattle.zarr_sharding_codec.specs.BytesMet.{bytes_met, is_met, met_length}
-use Rattle.zarr_sharding_state.specs.States.{slice_length}
+use Rattle.zarr_codecs_traits.specs.ReadBytes.{slice_length}
+use Rattle.zarr_sharding_codec.specs.BytesMet.{bytes_met, is_met}
 use Rattle.zarr_sharding_codec.proofs.GroupsRead.{AskedShard, IsAskable, IsAsked, subchunk_below}
 use Rattle.zarr_sharding_codec.proofs.SoFarRead.{pair_at}
 
@@ -65,32 +65,36 @@ sum_least f n m less =
 
 -- ---- subchunks in their order
 
+-- how many bytes the slice of a subchunk has in a shard of so many bytes, if places are asked for that lie in it
+abbrev pub met_length : AskedShard → ℕ → ℕ → ℕ
+met_length s total n = if is_met s.shape s.subchunk s.numbers n then slice_length total (get_or s.pairs n absent_pair) else 0
+
 -- how many bytes the slices have of the subchunks before this one that are met
-abbrev pub met_before : AskedShard → ℕ → ℕ
-met_before s bound = sum_by (met_length s.shape s.subchunk s.numbers s.pairs) (range_with_len 0 bound)
+abbrev pub met_before : AskedShard → ℕ → ℕ → ℕ
+met_before s total bound = sum_by (λ n. met_length s total n) (range_with_len 0 bound)
 
 -- no more bytes were given than the slices have of the subchunks before a bound, and the places that are left lie in later ones
-pub record GivenSoFar (s : AskedShard) (before now : ℕ) (rest : List AskedPlace) : Type 0 where
+pub record GivenSoFar (s : AskedShard) (total before now : ℕ) (rest : List AskedPlace) : Type 0 where
   pub bound : ℕ
   pub within : bound ≤ length s.pairs
   pub later : (i : ℕ) → i < length rest → bound ≤ (get_or rest i no_place).subchunk
-  pub given : now ≤ before + met_before s bound
+  pub given : now ≤ before + met_before s total bound
 
 -- the same shard, where no matter what it holds
 abbrev pub shard_asked : Chain → Elements → List ℕ → List ℕ → List Pair → List ℕ → AskedShard
 shard_asked inner elements shape subchunk pairs numbers =
     record { inner = inner; elements = elements; shape = shape; subchunk = subchunk; value = []; pairs = pairs; numbers = numbers }
 
-pub none_given : (s : AskedShard) (before : ℕ) (rest : List AskedPlace) → GivenSoFar s before before rest
-none_given s before rest = record { bound = 0; within = omega arith; later = λ i below. omega arith; given = omega arith }
+pub none_given : (s : AskedShard) (total before : ℕ) (rest : List AskedPlace) → GivenSoFar s total before before rest
+none_given s total before rest = record { bound = 0; within = omega arith; later = λ i below. omega arith; given = omega arith }
 
 -- the subchunk of a place that is asked for is met
-met_here : (s : AskedShard) (place : AskedPlace) → IsAsked s place → met_length s.shape s.subchunk s.numbers s.pairs place.subchunk ≡ slice_length (get_or s.pairs place.subchunk absent_pair)
-met_here s place asked =
+met_here : (s : AskedShard) (total : ℕ) (place : AskedPlace) → IsAsked s place → met_length s total place.subchunk ≡ slice_length total (get_or s.pairs place.subchunk absent_pair)
+met_here s total place asked =
     let test = λ (number : ℕ). subchunk_of s.shape s.subchunk number == place.subchunk in
     let here : subchunk_of s.shape s.subchunk (get_or s.numbers place.position 0) ≡ place.subchunk = sym (ap (λ (p : AskedPlace). p.subchunk) asked.is) in
     let met : is_met s.shape s.subchunk s.numbers place.subchunk ≡ true = list_any_at test s.numbers place.position 0 asked.below (eq-eqb (subchunk_of s.shape s.subchunk (get_or s.numbers place.position 0)) place.subchunk here) in
-    ap (λ (b : Bool). if b then slice_length (get_or s.pairs place.subchunk absent_pair) else 0) met
+    ap (λ (b : Bool). if b then slice_length total (get_or s.pairs place.subchunk absent_pair) else 0) met
 
 -- the places that are left after a group are in order
 pub rest_sorted : (rest group others : List AskedPlace) → group ++ others ≡ rest → IsNonDecreasingBy (λ (p : AskedPlace). p.subchunk) rest → IsNonDecreasingBy (λ (p : AskedPlace). p.subchunk) others
@@ -99,21 +103,21 @@ rest_sorted rest group others cut sorted =
     (IsNonDecreasingBy-drop (λ (p : AskedPlace). p.subchunk) (length group) rest sorted)
 
 -- one group more, where the places that are left are in the order of their subchunks
-pub given_more : (s : AskedShard) (before now after : ℕ) (group others : List AskedPlace) → IsAskable s → Each (IsAsked s) group → 0 < length group → StartsAnother group others → IsNonDecreasingBy (λ (p : AskedPlace). p.subchunk) (group ++ others)
-    → GivenSoFar s before now (group ++ others) → after ≤ now + slice_length (pair_at s group) → GivenSoFar s before after others
-given_more s before now after [] others can asked some next sorted was given = absurd (omega (arith, some))
-given_more s before now after (place ∷ places) others can asked some next sorted was given =
+pub given_more : (s : AskedShard) (total before now after : ℕ) (group others : List AskedPlace) → IsAskable s → Each (IsAsked s) group → 0 < length group → StartsAnother group others → IsNonDecreasingBy (λ (p : AskedPlace). p.subchunk) (group ++ others)
+    → GivenSoFar s total before now (group ++ others) → after ≤ now + slice_length total (pair_at s group) → GivenSoFar s total before after others
+given_more s total before now after [] others can asked some next sorted was given = absurd (omega (arith, some))
+given_more s total before now after (place ∷ places) others can asked some next sorted was given =
     let group = place ∷ places in
     let all = group ++ others in
-    let f = met_length s.shape s.subchunk s.numbers s.pairs in
+    let f : ℕ → ℕ = λ n. met_length s total n in
     let long = length-append group others in
     let here = place.subchunk in
     let low = was.later 0 (omega (arith, some, long)) in
     let below = subchunk_below s place can asked.0 in
     let so_far = was.given in
-    let least : met_before s was.bound ≤ met_before s here = sum_least f was.bound here low in
-    let more : met_before s (suc here) ≡ met_before s here + met_length s.shape s.subchunk s.numbers s.pairs here = sum_next f here in
-    let met : met_length s.shape s.subchunk s.numbers s.pairs here ≡ slice_length (pair_at s group) = met_here s place asked.0 in
+    let least : met_before s total was.bound ≤ met_before s total here = sum_least f was.bound here low in
+    let more : met_before s total (suc here) ≡ met_before s total here + met_length s total here = sum_next f here in
+    let met : met_length s total here ≡ slice_length total (pair_at s group) = met_here s total place asked.0 in
     record {
       bound = suc here;
       within = omega (arith, below);
@@ -129,13 +133,13 @@ given_more s before now after (place ∷ places) others can asked some next sort
     }
 
 -- all places were read
-pub given_all : (s : AskedShard) (before now : ℕ) (rest : List AskedPlace) → GivenSoFar s before now rest → now ≤ before + bytes_met s.shape s.subchunk s.numbers s.pairs
-given_all s before now rest was =
+pub given_all : (s : AskedShard) (total before now : ℕ) (rest : List AskedPlace) → GivenSoFar s total before now rest → now ≤ before + bytes_met s.shape s.subchunk s.numbers s.pairs total
+given_all s total before now rest was =
     let so_far = was.given in
-    let least = sum_least (met_length s.shape s.subchunk s.numbers s.pairs) was.bound (length s.pairs) was.within in
+    let least : met_before s total was.bound ≤ bytes_met s.shape s.subchunk s.numbers s.pairs total = sum_least (λ n. met_length s total n) was.bound (length s.pairs) was.within in
     omega (arith, so_far, least)
 
 -- the places of a group that isn't read any further
-pub given_refused : (s : AskedShard) (before now after : ℕ) (group others : List AskedPlace) → IsAskable s → Each (IsAsked s) group → 0 < length group → StartsAnother group others → IsNonDecreasingBy (λ (p : AskedPlace). p.subchunk) (group ++ others)
-    → GivenSoFar s before now (group ++ others) → after ≤ now + slice_length (pair_at s group) → after ≤ before + bytes_met s.shape s.subchunk s.numbers s.pairs
-given_refused s before now after group others can asked some next sorted was given = given_all s before after others (given_more s before now after group others can asked some next sorted was given)
+pub given_refused : (s : AskedShard) (total before now after : ℕ) (group others : List AskedPlace) → IsAskable s → Each (IsAsked s) group → 0 < length group → StartsAnother group others → IsNonDecreasingBy (λ (p : AskedPlace). p.subchunk) (group ++ others)
+    → GivenSoFar s total before now (group ++ others) → after ≤ now + slice_length total (pair_at s group) → after ≤ before + bytes_met s.shape s.subchunk s.numbers s.pairs total
+given_refused s total before now after group others can asked some next sorted was given = given_all s total before after others (given_more s total before now after group others can asked some next sorted was given)

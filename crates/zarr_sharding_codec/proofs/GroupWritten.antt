@@ -18,8 +18,8 @@ use Rattle.zarr_codecs_arrays.specs.declared.error.CodecError.TheVariants as err
 use Rattle.zarr_codecs_regions.proofs.Shown.{put_cells, stored_cells}
 use Rattle.zarr_sharding_places.specs.Pieces.{piece_decoded}
 use Rattle.zarr_sharding_places.specs.declared.locating.AskedPlace.{AskedPlace}
-use Rattle.zarr_sharding_state.specs.declared.writing.SliceChange.{SliceChange}
-use Rattle.zarr_sharding_codec.specs.PartWriting.{Stored, UpdatesGroup, cells_held, group_put, insides, positions}
+use Rattle.zarr_sharding_index.specs.declared.slice_changes.SliceChange.{SliceChange}
+use Rattle.zarr_sharding_codec.specs.PartWriting.{Stored, UpdatesGroup, cells_held, given_group, group_put, insides, positions}
 use Rattle.zarr_sharding_codec.specs.Reading.{ListsRead}
 use Rattle.zarr_sharding_codec.specs.Slices.{IsPieceStored, StoresPiece, slice_of}
 
@@ -55,7 +55,7 @@ group_valid stored subchunk edges k count group cells given updated h =
     record { is = record { lists = h.lists; many = are.whole ∙ ap product (sym h.same) }; values = are.values }
 
 pub group_stored : (stored : Stored) (subchunk edges : List ℕ) (k count : ℕ) (group : List AskedPlace) (cells : List Cell) (given updated : Payload) (slice : Option (Vec ℕ Global)) (change : SliceChange) (h : IsGroupPut stored subchunk edges k count group cells given updated)
-    → change.number ≡ k → change.slice ≡ slice → StoresPiece stored.inner stored.exact stored.elements (edges, group_put stored.elements.fill group cells h.before) (Ok slice) → UpdatesGroup stored subchunk k group cells (Ok change)
+    → change.number ≡ k → change.slice ≡ slice → StoresPiece stored.inner stored.exact stored.elements (edges, group_put stored.elements.fill group cells h.before) (Ok slice) → UpdatesGroup stored (given_group subchunk k group cells) (Ok change)
 group_stored stored subchunk edges k count group cells given updated slice change h number is made = record {
   number = number;
   before = h.before;
@@ -65,7 +65,7 @@ group_stored stored subchunk edges k count group cells given updated slice chang
 }
 
 pub group_refused : (stored : Stored) (subchunk edges : List ℕ) (k count : ℕ) (group : List AskedPlace) (cells : List Cell) (given updated : Payload) (e : CodecError) (h : IsGroupPut stored subchunk edges k count group cells given updated)
-    → StoresPiece stored.inner stored.exact stored.elements (subchunk, group_put stored.elements.fill group cells h.before) (Err e) → UpdatesGroup stored subchunk k group cells (Err e)
+    → StoresPiece stored.inner stored.exact stored.elements (subchunk, group_put stored.elements.fill group cells h.before) (Err e) → UpdatesGroup stored (given_group subchunk k group cells) (Err e)
 group_refused stored subchunk edges k count group cells given updated error.Codec h why = record { before = h.before; held = h.held; some = why.0; is = why.1 }
 group_refused stored subchunk edges k count group cells given updated error.Size h (inl large) = inl large
 group_refused stored subchunk edges k count group cells given updated error.Size h (inr why) = inr (record { before = h.before; held = h.held; some = why.0; is = why.1 })
@@ -74,7 +74,7 @@ group_refused stored subchunk edges k count group cells given updated error.Sour
 group_refused stored subchunk edges k count group cells given updated e h why = absurd why
 
 -- what isn't read
-pub group_unread : (stored : Stored) (subchunk : List ℕ) (k : ℕ) (group : List AskedPlace) (cells : List Cell) (e : CodecError) → ListsRead stored.elements subchunk (cells_held stored subchunk k) (Err e) → UpdatesGroup stored subchunk k group cells (Err e)
+pub group_unread : (stored : Stored) (subchunk : List ℕ) (k : ℕ) (group : List AskedPlace) (cells : List Cell) (e : CodecError) → ListsRead stored.elements subchunk (cells_held stored subchunk k) (Err e) → UpdatesGroup stored (given_group subchunk k group cells) (Err e)
 group_unread stored subchunk k group cells error.Damage why = why
 group_unread stored subchunk k group cells error.Size why = inl why
 group_unread stored subchunk k group cells error.Memory why = tt

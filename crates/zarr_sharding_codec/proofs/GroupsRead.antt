@@ -18,7 +18,7 @@ use Rattle.zarr_codecs_meaning.proofs.Positions.{each_at}
 use Rattle.zarr_codecs_regions.specs.Updates.{put}
 use Rattle.zarr_sharding_places.specs.Locating.{asked_place, asked_places}
 use Rattle.zarr_sharding_places.specs.declared.locating.AskedPlace.{AskedPlace}
-use Rattle.zarr_sharding_codec.specs.Reading.{place_decoded, places_decoded, shard_cell, shard_cells}
+use Rattle.zarr_sharding_codec.specs.Reading.{place_decoded, places_decoded, shard_cell, shard_cells, subchunks_of}
 use Rattle.zarr_sharding_places.specs.Groups as groups
 use Rattle.zarr_sharding_places.specs.Groups.{no_place}
 use Rattle.zarr_sharding_places.specs.Locating.{inside_of, part_shape, subchunk_of}
@@ -27,6 +27,7 @@ use Rattle.zarr_sharding_codec.proofs.NumberedParts.{each_from}
 use Rattle.zarr_sharding_codec.proofs.AllThere.{all_found, length-there, lost_one, one_lost, there_at}
 use Rattle.zarr_sharding_codec.proofs.LocatedParts.{located_place}
 use Rattle.zarr_sharding_codec.proofs.PlaceCells.{inside_below, shard_place}
+use Rattle.zarr_codecs_traits.specs.Arrays.{coded}
 
 -- a shard, and the numbers of the places that are asked of it
 pub record AskedShard : Type 0 where
@@ -53,7 +54,7 @@ abbrev pub number_of : AskedShard → AskedPlace → ℕ
 number_of s place = get_or s.numbers place.position 0
 
 abbrev pub cell_of : AskedShard → ℕ → Option Cell
-cell_of s n = shard_cell s.inner s.elements s.shape s.subchunk s.value s.pairs n
+cell_of s n = shard_cell (subchunks_of s.inner s.elements s.shape s.subchunk) s.value s.pairs n
 
 number_below : (s : AskedShard) (place : AskedPlace) → IsAskable s → IsAsked s place → number_of s place < product s.shape
 number_below s place can asked =
@@ -61,10 +62,10 @@ number_below s place can asked =
 
 -- the cell at a place of the subchunk with a number, and the cells at some of them
 abbrev pub piece_cell : AskedShard → ℕ → ℕ → Option Cell
-piece_cell s k place = place_decoded s.inner s.elements s.value (part_shape s.shape s.subchunk k) (get_or s.pairs k absent_pair) place
+piece_cell s k place = place_decoded (coded s.inner s.elements (part_shape s.shape s.subchunk k)) s.value (get_or s.pairs k absent_pair) place
 
 abbrev pub piece_cells : AskedShard → ℕ → List ℕ → Option (List Cell)
-piece_cells s k places = places_decoded s.inner s.elements s.value (part_shape s.shape s.subchunk k) (get_or s.pairs k absent_pair) places
+piece_cells s k places = places_decoded (coded s.inner s.elements (part_shape s.shape s.subchunk k)) s.value (get_or s.pairs k absent_pair) places
 
 -- the cell at a place is that of its subchunk
 asked_cell : (s : AskedShard) (place : AskedPlace) → IsAskable s → IsAsked s place → cell_of s (number_of s place) ≡ piece_cell s place.subchunk place.inside
@@ -173,7 +174,7 @@ piece_many s k piece group read =
 
 -- where a place of a group has no cell, the places have none together
 pub group_lost : (s : AskedShard) (k : ℕ) (group : List AskedPlace) → IsAskable s → IsGroup s k group → piece_cells s k (insides group) ≡ None
-    → shard_cells s.inner s.elements s.shape s.subchunk s.value s.pairs s.numbers ≡ None
+    → shard_cells (subchunks_of s.inner s.elements s.shape s.subchunk) s.value s.pairs s.numbers ≡ None
 group_lost s k group can is lost =
     let one = lost_one (piece_cell s k) (insides group) lost in
     let count : length (insides group) ≡ length group = length-map group (λ (p : AskedPlace). p.inside) in
@@ -209,7 +210,7 @@ pub stands_at : {ps : List AskedPlace} {p : AskedPlace} → StandsIn ps p → St
 stands_at h = record { at_ = h.1.0; below = h.1.1; is = h.1.2 }
 
 pub all_read : (s : AskedShard) (places : List AskedPlace) (cells : List Cell) → IsPermutation (asked_places s.shape s.subchunk s.numbers) places → length cells ≡ length s.numbers → Each (IsRead s cells) places
-    → shard_cells s.inner s.elements s.shape s.subchunk s.value s.pairs s.numbers ≡ Some cells
+    → shard_cells (subchunks_of s.inner s.elements s.shape s.subchunk) s.value s.pairs s.numbers ≡ Some cells
 all_read s places cells moved whole are =
     let first = asked_places s.shape s.subchunk s.numbers in
     let f = asked_place s.shape s.subchunk s.numbers in

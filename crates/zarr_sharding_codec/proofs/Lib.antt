@@ -15,6 +15,7 @@ pub mod PlaceCells
 pub mod GroupsRead
 pub mod ShardBounds
 pub mod PartsRead
+pub mod SubchunkRead
 pub mod SoFarRead
 pub mod ShardSizes
 pub mod WholeRead
@@ -34,7 +35,6 @@ pub mod PartPlaced
 pub mod PartAfter
 pub mod AppendedShard
 pub mod PartWritten
-pub mod ChangedSlices
 pub mod Appended
 pub mod PartLength
 pub mod PartAppended

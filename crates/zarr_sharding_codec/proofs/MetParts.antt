@@ -1,11 +1,10 @@
 -- Which subchunks places lie in, told by the subchunks' numbers and by their places.
-use Rattle.std.proofs.Common.{◌≡◌, ◌∙◌, ℕ, suc, ◌+◌, ◌<◌, List, [], ◌∷◌, length, get_or, ap, sym, refl, subst, arith, Bool, true, false, ◌&&◌, ◌||◌, ◌==◌, if◌then◌else◌}
-use Rattle.std.specs.Prelude.{nat_lt, not, sum_by}
+use Rattle.std.proofs.Common.{◌≡◌, ◌∙◌, ℕ, suc, ◌+◌, ◌<◌, List, [], ◌∷◌, length, get_or, ap, sym, refl, subst, arith, Bool, true, false, ◌||◌, ◌==◌, if◌then◌else◌}
+use Rattle.std.specs.Prelude.{nat_lt, sum_by}
 use Rattle.std.specs.List.{list_all, range_with_len}
 use Rattle.std.proofs.lemmas.Bool.{and_parts, eq-eqb, eqb-true, lt-ltb, ltb-true}
 use Rattle.std.proofs.lemmas.List.Sums.{sum_by-cons}
 use Rattle.zarr_grids_boxes.specs.Boxes.{product}
-use Rattle.zarr_codecs_meaning.specs.Decoding.{is_absent}
 use Rattle.zarr_codecs_meaning.specs.Encoding.{Pair, absent_pair}
 use Rattle.zarr_codecs_meaning.specs.Fits.{can_cut}
 use Rattle.zarr_codecs_meaning.specs.Places.{Part, parts_of, position_of}
@@ -13,11 +12,10 @@ use Rattle.zarr_codecs_meaning.proofs.Parts.{no_part}
 use Rattle.zarr_codecs_meaning.proofs.PartsOnce.{number_in}
 use Rattle.zarr_codecs_meaning.proofs.Positions.{among_at, position_found, position_read}
 use Rattle.zarr_codecs_traits.specs.PartWriting.{is_met}
-use Rattle.zarr_codecs_traits.specs.ReadBytes.{slices_met}
+use Rattle.zarr_codecs_traits.specs.ReadBytes.{slice_length, slices_met}
 use Rattle.zarr_sharding_places.specs.Locating.{inside_of, subchunk_of}
-use Rattle.zarr_sharding_state.specs.States.{slice_length}
 use Rattle.zarr_sharding_codec.specs.BytesMet as counted
-use Rattle.zarr_sharding_codec.specs.BytesMet.{bytes_met, met_length}
+use Rattle.zarr_sharding_codec.specs.BytesMet.{bytes_met}
 use Rattle.zarr_sharding_codec.proofs.LocatedParts.{located_place}
 use Rattle.zarr_sharding_codec.proofs.PutPieces.{place_tells, places_at}
 
@@ -57,33 +55,28 @@ met_alike shape subchunk (n ∷ ns) k cuts there below =
 
 -- ---- how many bytes their slices have
 
--- how many bytes a pair's slice has, if it is met and present
-abbrev taken_of : List ℕ → Part → Pair → ℕ
-taken_of numbers part pair = if is_met numbers part && not (is_absent pair) then pair.1 else 0
-
-one_or_none : (met gone : Bool) (n : ℕ) → (if met then (if gone then 0 else n) else 0) ≡ (if met && not gone then n else 0)
-one_or_none true true n = refl
-one_or_none true false n = refl
-one_or_none false gone n = refl
+-- how many bytes a pair's slice has, if it is met
+abbrev taken_of : ℕ → List ℕ → Part → Pair → ℕ
+taken_of total numbers part pair = if is_met numbers part then slice_length total pair else 0
 
 -- a sum by numbers is one by parts and pairs
-sum_by_parts : (numbers : List ℕ) (parts : List Part) (pairs : List Pair) (count : ℕ → ℕ) (first : ℕ) → length pairs ≡ length parts → ((i : ℕ) → i < length pairs → count (first + i) ≡ taken_of numbers (get_or parts i no_part) (get_or pairs i absent_pair))
-    → sum_by count (range_with_len first (length pairs)) ≡ slices_met numbers parts pairs
-sum_by_parts numbers [] [] count first many each = refl
-sum_by_parts numbers [] (pair ∷ pairs) count first many each = absurd (omega (arith, many))
-sum_by_parts numbers (part ∷ parts) [] count first many each = absurd (omega (arith, many))
-sum_by_parts numbers (part ∷ parts) (pair ∷ pairs) count first many each =
+sum_by_parts : (total : ℕ) (numbers : List ℕ) (parts : List Part) (pairs : List Pair) (count : ℕ → ℕ) (first : ℕ) → length pairs ≡ length parts → ((i : ℕ) → i < length pairs → count (first + i) ≡ taken_of total numbers (get_or parts i no_part) (get_or pairs i absent_pair))
+    → sum_by count (range_with_len first (length pairs)) ≡ slices_met total numbers parts pairs
+sum_by_parts total numbers [] [] count first many each = refl
+sum_by_parts total numbers [] (pair ∷ pairs) count first many each = absurd (omega (arith, many))
+sum_by_parts total numbers (part ∷ parts) [] count first many each = absurd (omega (arith, many))
+sum_by_parts total numbers (part ∷ parts) (pair ∷ pairs) count first many each =
     let here : first ≡ first + 0 = omega arith in
     let next : (i : ℕ) → first + 1 + i ≡ first + suc i = λ i. omega arith in
     sum_by-cons count first (range_with_len (first + 1) (length pairs))
     ∙ (ap (λ n. n + sum_by count (range_with_len (first + 1) (length pairs))) (ap count here ∙ each 0 (omega arith))
-    ∙ ap (λ n. taken_of numbers part pair + n) (sum_by_parts numbers parts pairs count (first + 1) (omega (arith, many)) (λ i low. ap count (next i) ∙ each (suc i) (omega (arith, low)))))
+    ∙ ap (λ n. taken_of total numbers part pair + n) (sum_by_parts total numbers parts pairs count (first + 1) (omega (arith, many)) (λ i low. ap count (next i) ∙ each (suc i) (omega (arith, low)))))
 
-pub bytes_alike : (shape subchunk numbers : List ℕ) (pairs : List Pair) → can_cut shape subchunk ≡ true → length pairs ≡ length (parts_of shape subchunk) → list_all (λ n. nat_lt n (product shape)) numbers ≡ true → bytes_met shape subchunk numbers pairs ≡ slices_met numbers (parts_of shape subchunk) pairs
-bytes_alike shape subchunk numbers pairs cuts many below =
-    sum_by_parts numbers (parts_of shape subchunk) pairs (met_length shape subchunk numbers pairs) 0 many (λ i low.
+pub bytes_alike : (shape subchunk numbers : List ℕ) (pairs : List Pair) (total : ℕ) → can_cut shape subchunk ≡ true → length pairs ≡ length (parts_of shape subchunk) → list_all (λ n. nat_lt n (product shape)) numbers ≡ true
+    → bytes_met shape subchunk numbers pairs total ≡ slices_met total numbers (parts_of shape subchunk) pairs
+bytes_alike shape subchunk numbers pairs total cuts many below =
+    let count : ℕ → ℕ = λ n. if counted.is_met shape subchunk numbers n then slice_length total (get_or pairs n absent_pair) else 0 in
+    sum_by_parts total numbers (parts_of shape subchunk) pairs count 0 many (λ i low.
     let pair = get_or pairs i absent_pair in
-    let part = get_or (parts_of shape subchunk) i no_part in
     let start : 0 + i ≡ i = omega arith in
-    ap (met_length shape subchunk numbers pairs) start
-    ∙ (ap (λ (b : Bool). if b then slice_length pair else 0) (met_alike shape subchunk numbers i cuts (omega (arith, low, many)) below) ∙ one_or_none (is_met numbers part) (is_absent pair) pair.1))
+    ap count start ∙ ap (λ (b : Bool). if b then slice_length total pair else 0) (met_alike shape subchunk numbers i cuts (omega (arith, low, many)) below))

@@ -20,7 +20,7 @@ use Rattle.zarr_sharding_codec.proofs.PutPieces.{places_at}
 use Rattle.zarr_sharding_codec.proofs.StoredLoop.{no_piece}
 
 module _ (subchunk : List ℕ) (inner index : Chain) (location : Location) (elements : Elements) (shape : List ℕ) (asked : Asked) (payload : Payload) (size : ℕ) (numbers : List ℕ) (old : Option (List ℕ)) (pairs : List Pair)
-    (tested : IsTestedPart (sharded subchunk inner index location) elements shape asked payload size numbers) (opened : IsShardOpened subchunk inner index location elements shape old pairs) where
+    (tested : IsTestedPart (coded (sharded subchunk inner index location) elements shape) asked payload size numbers) (opened : IsShardOpened subchunk inner index location elements shape old pairs) where
   -- the cells that the array would have
   abbrev pub after : List Cell
   after = cells_after (coded (sharded subchunk inner index location) elements shape) old (numbers_asked shape asked) tested.cells

@@ -1,5 +1,5 @@
 -- A part of an array is appended to its shard: what was read, and what is written then.
-use Rattle.std.proofs.Common.{◌≡◌, ◌≤◌, ◌∙◌, ℕ, ◌+◌, ◌*◌, ◌/◌, List, length, ap, sym, subst, arith, Bool, true, Option, IsTrue, IfOk, Result, Err}
+use Rattle.std.proofs.Common.{◌≡◌, ◌≤◌, ◌∙◌, ℕ, ◌+◌, ◌*◌, ◌/◌, List, length, ap, sym, subst, arith, Bool, true, Option, Some, IsTrue, IfOk, Result, Err}
 use Rattle.zarr_grids_boxes.specs.Boxes.{product}
 use Rattle.zarr_codecs_arrays.specs.Outcomes.{IsValid}
 use Rattle.zarr_codecs_arrays.specs.declared.error.CodecError.{CodecError}
@@ -17,11 +17,11 @@ use Rattle.zarr_codecs_traits.specs.ReadBytes.{most_of_numbers}
 use Rattle.zarr_codecs_traits.specs.ShardWrites.{most_to_write}
 use Rattle.zarr_codecs_traits.specs.Sources.{value_length}
 use Rattle.zarr_sharding_changes.specs.Changes.{Change, pairs_after}
-use Rattle.zarr_sharding_state.specs.Held.{IsOpened}
-use Rattle.zarr_sharding_state.specs.Opened.{OpenRefused}
-use Rattle.zarr_sharding_state.specs.Views.{changes_of}
-use Rattle.zarr_sharding_state.specs.declared.writing.SliceChange.{SliceChange}
-use Rattle.zarr_sharding_codec.specs.Appending.{AppendsChanges, AppendsPart, ChangesUnwritten, IsTestedPart}
+use Rattle.zarr_sharding_index.specs.Held.{IsOpened, shard_length, index_coding}
+use Rattle.zarr_sharding_index.specs.Opened.{OpenRefused}
+use Rattle.zarr_sharding_index.specs.SliceChanges.{changes_of}
+use Rattle.zarr_sharding_index.specs.declared.slice_changes.SliceChange.{SliceChange}
+use Rattle.zarr_sharding_codec.specs.Appending.{AppendsChanges, AppendsPart, ChangesUnwritten, IsTestedPart, shard_write}
 use Rattle.zarr_sharding_codec.specs.PartWriting.{AreChanged, IsOf, UpdatesSlices, put_at, stored_in}
 use Rattle.zarr_sharding_codec.specs.BytesMet.{bytes_met}
 use Rattle.zarr_sharding_codec.proofs.MostTaken.{index_taken, opened_taken}
@@ -32,7 +32,7 @@ use Rattle.zarr_sharding_codec.proofs.PartWritten.{IsReady, half_index, opened_o
 pub record IsRead (subchunk : List ℕ) (inner index : Chain) (location : Location) (elements : Elements) (shape : List ℕ) (asked : Asked) (payload : Payload) (size : ℕ) (numbers pairs_shape given : List ℕ) (old : Option (List ℕ)) (pairs : List Pair) (end : ℕ) : Type 0 where
   pub lawful : IsLawfulChain (sharded subchunk inner index location)
   pub fill : is_value elements.type elements.fill ≡ true
-  pub tested : IsTestedPart (sharded subchunk inner index location) elements shape asked payload size numbers
+  pub tested : IsTestedPart (coded (sharded subchunk inner index location) elements shape) asked payload size numbers
   pub shape_is : pairs_shape ≡ index_shape shape subchunk
   pub given_is : given ≡ numbers
   pub opened : IsOpened index location pairs_shape (product pairs_shape / 2) old pairs end
@@ -76,12 +76,12 @@ module _ (subchunk : List ℕ) (inner index : Chain) (location : Location) (exac
       (subst (λ (ns : List ℕ). UpdatesSlices (stored_in inner exact elements later pairs) (put_at shape subchunk ns h.tested.cells) (Err e)) h.given_is why))
 
   pub appended_read : (one whole : Bool) (new : Option (List ℕ)) (changes lent : List SliceChange) (result : Result Bool CodecError) → lent ≡ changes → (IsTrue whole → IsTrue exact) → AreChanged (stored_in inner exact elements later pairs) (put_at shape subchunk given h.tested.cells) (changes_of changes)
-      → (last : Option (List ℕ)) → old ≡ last → IfOk result (AppendsChanges index one location pairs_shape (changes_of lent) end pairs last new) → IfOk result (AppendsPart (coded (sharded subchunk inner index location) elements shape) whole (update_of asked payload old) new)
+      → (last : Option (List ℕ)) → old ≡ last → IfOk result (AppendsChanges (index_coding index one location pairs_shape) (shard_write (changes_of lent) end pairs last) new) → IfOk result (AppendsPart (coded (sharded subchunk inner index location) elements shape) whole (update_of asked payload old) new)
   appended_read one whole new changes lent result are to_exact changed last kept made =
       part_appended subchunk inner index location exact elements shape asked payload size numbers old pairs end (changes_of changes) (ready_read (changes_of changes) changed) one whole new result to_exact
-      (subst (λ (o : Option (List ℕ)). IfOk result (AppendsChanges index one location (index_shape shape subchunk) (changes_of changes) end pairs o new)) (sym kept)
-      (subst (λ (cs : List SliceChange). IfOk result (AppendsChanges index one location (index_shape shape subchunk) (changes_of cs) end pairs last new)) are
-      (subst (λ (s : List ℕ). IfOk result (AppendsChanges index one location s (changes_of lent) end pairs last new)) h.shape_is made)))
+      (subst (λ (o : Option (List ℕ)). IfOk result (AppendsChanges (index_coding index one location (index_shape shape subchunk)) (shard_write (changes_of changes) end pairs o) new)) (sym kept)
+      (subst (λ (cs : List SliceChange). IfOk result (AppendsChanges (index_coding index one location (index_shape shape subchunk)) (shard_write (changes_of cs) end pairs last) new)) are
+      (subst (λ (s : List ℕ). IfOk result (AppendsChanges (index_coding index one location s) (shard_write (changes_of lent) end pairs last) new)) h.shape_is made)))
 
   pub not_written : (changes : List Change) (result : Result Bool CodecError) → AreChanged (stored_in inner exact elements later pairs) (put_at shape subchunk given h.tested.cells) changes → ChangesUnwritten index pairs_shape (pairs_after end changes pairs) result
       → NotEncodedInto (coded (sharded subchunk inner index location) elements shape) (update_of asked payload old) result
@@ -91,21 +91,25 @@ module _ (subchunk : List ℕ) (inner index : Chain) (location : Location) (exac
       part_not_written Bool subchunk inner index location exact elements shape asked payload size numbers old pairs h.tested (ready_opened subchunk inner index location elements shape asked payload size numbers old pairs end h.tested read_count read_opened) h.tested.below end changes result
       (subst (λ n. IsOpened index location (index_shape shape subchunk) n old pairs end) (half_index shape subchunk) read_opened) ready.changed (subst (λ (s : List ℕ). ChangesUnwritten index s (pairs_after end changes pairs) result) h.shape_is why)
 
+  -- how many bytes the value has, if there is one
+  read_total : (value : List ℕ) → old ≡ Some value → shard_length location size end ≡ length value
+  read_total value held = sym (subst (λ (o : Option (List ℕ)). IsOf location size o pairs end) held (subst (λ (o : Option (List ℕ)). IsOf location size o pairs end) (sym same) read_of))
+
   -- how many bytes were taken to read the slices
-  pub taken_read : (before opened after : ℕ) → opened ≤ before + size → opened ≤ before + value_length old → after ≤ opened + bytes_met shape subchunk numbers pairs → after ≤ before + most_to_write (coded (sharded subchunk inner index location) elements shape) (update_of asked payload old)
+  pub taken_read : (before opened after : ℕ) → opened ≤ before + size → opened ≤ before + value_length old → after ≤ opened + bytes_met shape subchunk numbers pairs (shard_length location size end) → after ≤ before + most_to_write (coded (sharded subchunk inner index location) elements shape) (update_of asked payload old)
   taken_read before opened after first within second =
       subst (λ (ns : List ℕ). after ≤ before + most_of_numbers (sharded subchunk inner index location) elements.type shape old ns) h.tested.numbers_are
-      (opened_taken subchunk inner index location elements shape old pairs numbers size before opened after
-      (ready_opened subchunk inner index location elements shape asked payload size numbers old pairs end h.tested read_count read_opened) h.tested.below h.tested.size_is first within second)
+      (opened_taken subchunk inner index location elements shape old pairs numbers (shard_length location size end) size before opened after
+      (ready_opened subchunk inner index location elements shape asked payload size numbers old pairs end h.tested read_count read_opened) read_total h.tested.below h.tested.size_is first within second)
 
 -- what isn't opened, by the shape that it is read with
 pub not_opened : (A : Type 0) (subchunk : List ℕ) (inner index : Chain) (location : Location) (elements : Elements) (shape : List ℕ) (asked : Asked) (payload : Payload) (size : ℕ) (numbers pairs_shape : List ℕ) (old : Option (List ℕ)) (e : CodecError)
-    → IsTestedPart (sharded subchunk inner index location) elements shape asked payload size numbers → pairs_shape ≡ index_shape shape subchunk → OpenRefused index location pairs_shape old e → NotEncodedInto {A = A} (coded (sharded subchunk inner index location) elements shape) (update_of asked payload old) (Err e)
+    → IsTestedPart (coded (sharded subchunk inner index location) elements shape) asked payload size numbers → pairs_shape ≡ index_shape shape subchunk → OpenRefused index location pairs_shape old e → NotEncodedInto {A = A} (coded (sharded subchunk inner index location) elements shape) (update_of asked payload old) (Err e)
 not_opened A subchunk inner index location elements shape asked payload size numbers pairs_shape old e tested is why =
     part_unopened A subchunk inner index location elements shape asked payload size numbers old e tested (subst (λ (s : List ℕ). OpenRefused index location s old e) is why)
 
 -- where the index alone was read
 pub taken_unopened : (subchunk : List ℕ) (inner index : Chain) (location : Location) (elements : Elements) (shape : List ℕ) (asked : Asked) (payload : Payload) (size : ℕ) (numbers : List ℕ) (old : Option (List ℕ)) (before after : ℕ)
-    → IsTestedPart (sharded subchunk inner index location) elements shape asked payload size numbers → after ≤ before + size → after ≤ before + value_length old → after ≤ before + most_to_write (coded (sharded subchunk inner index location) elements shape) (update_of asked payload old)
+    → IsTestedPart (coded (sharded subchunk inner index location) elements shape) asked payload size numbers → after ≤ before + size → after ≤ before + value_length old → after ≤ before + most_to_write (coded (sharded subchunk inner index location) elements shape) (update_of asked payload old)
 taken_unopened subchunk inner index location elements shape asked payload size numbers old before after tested first within =
     index_taken subchunk inner index location elements.type shape old (numbers_asked shape asked) size before after tested.size_is first within

@@ -14,7 +14,7 @@ use Rattle.zarr_codecs_meaning.specs.Types.{Cell, is_fill}
 use Rattle.zarr_codecs_meaning.proofs.Lists.{each_passes}
 use Rattle.zarr_codecs_meaning.proofs.Positions.{each_at}
 use Rattle.zarr_codecs_meaning.proofs.Shards.{fill_is_replicate}
-use Rattle.zarr_sharding_state.specs.Held.{are_absent}
+use Rattle.zarr_sharding_index.specs.Held.{are_absent}
 use Rattle.zarr_sharding_codec.proofs.PartHolds.{piece_there}
 use Rattle.zarr_sharding_codec.proofs.PutPieces.{places_at, same_seen}
 use Rattle.zarr_sharding_codec.proofs.StoredLoop.{no_piece}

@@ -19,7 +19,7 @@ use Rattle.zarr_codecs_traits.specs.PartWriting.{IsLostAmong, MeetsLost, is_met}
 use Rattle.zarr_sharding_changes.specs.Changes.{Change}
 use Rattle.zarr_sharding_places.specs.Locating.{inside_of, part_shape, subchunk_of}
 use Rattle.zarr_sharding_places.specs.Pieces.{piece_decoded}
-use Rattle.zarr_sharding_state.specs.Held.{IsOpened}
+use Rattle.zarr_sharding_index.specs.Held.{IsOpened}
 use Rattle.zarr_sharding_codec.specs.PartWriting.{AreChanged, AreUpdated, HasChange, IsLostAt, IsUpdated, Put, Stored, put_at, stored_in}
 use Rattle.zarr_sharding_codec.proofs.NumberedParts.{part_is}
 use Rattle.zarr_sharding_codec.proofs.LocatedParts.{located_place}

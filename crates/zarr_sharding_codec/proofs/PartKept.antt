@@ -17,15 +17,16 @@ use Rattle.zarr_codecs_meaning.proofs.Shards.{fill_is_replicate, is_present, sli
 use Rattle.zarr_codecs_regions.proofs.Shown.{map_put, put_cells}
 use Rattle.zarr_codecs_traits.specs.Indexers.{put}
 use Rattle.zarr_codecs_traits.specs.PartWriting.{cells_shown}
+use Rattle.zarr_codecs_traits.specs.Arrays.{coded}
 use Rattle.zarr_sharding_changes.specs.Changes.{Change, appended, pairs_after}
 use Rattle.zarr_sharding_changes.specs.Compaction.{data_in}
 use Rattle.zarr_sharding_changes.proofs.Appending.{slice_grown}
 use Rattle.zarr_sharding_places.specs.Locating.{part_shape, subchunk_of}
 use Rattle.zarr_sharding_places.specs.Pieces.{piece_decoded}
 use Rattle.zarr_sharding_places.proofs.PutPlaces.{length-put}
-use Rattle.zarr_sharding_state.specs.Held.{IsOpened, are_absent, lies_between}
-use Rattle.zarr_sharding_state.proofs.Counts.{changed_count}
-use Rattle.zarr_sharding_state.proofs.Reopened.{AllLie, IsSplitAfter, data_of, opened_ends, opened_lies, opened_split, pair_has_slice, reopened, split_after}
+use Rattle.zarr_sharding_index.specs.Held.{IsOpened, are_absent, lies_between}
+use Rattle.zarr_sharding_index.proofs.Counts.{changed_count}
+use Rattle.zarr_sharding_index.proofs.Reopened.{AllLie, IsSplitAfter, data_of, opened_ends, opened_lies, opened_split, pair_has_slice, reopened, split_after}
 use Rattle.zarr_sharding_codec.specs.PartWriting.{AreUpdated, HasChange, IsUpdated, Put, Stored, cells_put, given_in, numbers_in, put_at, stored_in}
 use Rattle.zarr_sharding_codec.specs.Reading.{place_decoded}
 use Rattle.zarr_sharding_codec.specs.Slices.{IsPieceStored}
@@ -144,7 +145,7 @@ module _ (subchunk : List ℕ) (inner index : Chain) (location : Location) (exac
 
   -- so its places are read as before
   kept_place : (k i : ℕ) → k < length h.pairs → IsPairKept h.changes h.pairs made k → (b : Bool) → is_absent (get_or h.pairs k absent_pair) ≡ b
-      → place_decoded inner elements (unwrap_or new []) (part_shape shape subchunk k) (get_or made k absent_pair) i ≡ place_decoded inner elements (unwrap_or old []) (part_shape shape subchunk k) (get_or h.pairs k absent_pair) i
+      → place_decoded (coded inner elements (part_shape shape subchunk k)) (unwrap_or new []) (get_or made k absent_pair) i ≡ place_decoded (coded inner elements (part_shape shape subchunk k)) (unwrap_or old []) (get_or h.pairs k absent_pair) i
   kept_place k i low kept true e =
       let there : is_absent (get_or made k absent_pair) ≡ true = ap is_absent kept.is ∙ e in
       ap (λ (b : Bool). if b then Some elements.fill else option_and_then (λ slice. cell_at inner elements (part_shape shape subchunk k) slice i) (slice_at (unwrap_or new []) (get_or made k absent_pair))) there

@@ -10,8 +10,8 @@ use Rattle.zarr_codecs_meaning.specs.Types.{Elements}
 use Rattle.zarr_codecs_traits.specs.PartWriting.{IsPlaced, StopsPart}
 use Rattle.zarr_sharding_changes.specs.Compaction.{compacted, data_in, slices_in, slices_of}
 use Rattle.zarr_sharding_changes.specs.Compactions.{Compaction, by_length, damaged, nothing_to_gain, too_long, unless_refused}
-use Rattle.zarr_sharding_state.specs.Held.{IsOpened, lies_between}
-use Rattle.zarr_sharding_state.specs.Opened.{IsDamaged}
+use Rattle.zarr_sharding_index.specs.Held.{IsOpened, lies_between}
+use Rattle.zarr_sharding_index.specs.Opened.{IsDamaged}
 
 -- ---- slices by their pairs
 

@@ -16,12 +16,13 @@ use Rattle.zarr_codecs_meaning.proofs.Lists.{bind_some, if_some, some_same}
 use Rattle.zarr_codecs_meaning.proofs.Parts.{index_product, no_part}
 use Rattle.zarr_codecs_meaning.proofs.PartReading.{part_read}
 use Rattle.zarr_codecs_traits.specs.PartWriting.{cells_shown, only_cell}
+use Rattle.zarr_codecs_traits.specs.Arrays.{coded}
 use Rattle.zarr_sharding_places.specs.Locating.{inside_of, part_shape, subchunk_of}
 use Rattle.zarr_sharding_places.specs.Pieces.{piece_decoded}
 use Rattle.zarr_sharding_places.proofs.PartPlaces.{place_below}
 use Rattle.zarr_sharding_places.proofs.ReadPieces.{piece_count}
-use Rattle.zarr_sharding_state.specs.Held.{IsOpened}
-use Rattle.zarr_sharding_codec.specs.Reading.{place_decoded, shard_cell}
+use Rattle.zarr_sharding_index.specs.Held.{IsOpened}
+use Rattle.zarr_sharding_codec.specs.Reading.{place_decoded, shard_cell, subchunks_of}
 use Rattle.zarr_sharding_codec.proofs.NumberedParts as numbered
 use Rattle.zarr_sharding_codec.proofs.NumberedParts.{part_count}
 use Rattle.zarr_sharding_codec.proofs.PartsRead.{part_is}
@@ -59,7 +60,7 @@ held_true inner elements value shape pair before i fit low false e held =
 
 -- where a subchunk is decoded, each of its places is
 pub held_place : (inner : Chain) (elements : Elements) (value shape : List ℕ) (pair : Pair) (before : List Cell) (i : ℕ) → fits inner elements.type shape ≡ true → i < product shape → piece_decoded inner elements value shape pair ≡ Some before
-    → place_decoded inner elements value shape pair i ≡ Some (get_or before i elements.fill)
+    → place_decoded (coded inner elements shape) value pair i ≡ Some (get_or before i elements.fill)
 held_place inner elements value shape pair before i fit low held = held_true inner elements value shape pair before i fit low (is_absent pair) refl held
 
 -- ---- an array whose shard was opened
@@ -81,20 +82,20 @@ module _ (subchunk : List ℕ) (inner index : Chain) (location : Location) (elem
   -- each place is read by its subchunk's pair
   place_read : (stored : Option (List ℕ)) (pairs : List Pair) (n : ℕ) → IsShardOpened subchunk inner index location elements shape stored pairs → n < product shape
       → chunk_part (sharded subchunk inner index location) elements shape stored (n ∷ [])
-      ≡ option_and_then alone (place_decoded inner elements (unwrap_or stored []) (part_shape shape subchunk (subchunk_of shape subchunk n)) (get_or pairs (subchunk_of shape subchunk n) absent_pair) (inside_of shape subchunk n))
+      ≡ option_and_then alone (place_decoded (coded inner elements (part_shape shape subchunk (subchunk_of shape subchunk n))) (unwrap_or stored []) (get_or pairs (subchunk_of shape subchunk n) absent_pair) (inside_of shape subchunk n))
   place_read None pairs n is low =
       let k = subchunk_of shape subchunk n in
       let none : get_or pairs k absent_pair ≡ absent_pair = ap (λ (ps : List Pair). get_or ps k absent_pair) is.opened.0 ∙ absent_at is.count k in
-      sym (ap (λ (p : Pair). option_and_then alone (place_decoded inner elements [] (part_shape shape subchunk k) p (inside_of shape subchunk n))) none)
+      sym (ap (λ (p : Pair). option_and_then alone (place_decoded (coded inner elements (part_shape shape subchunk k)) [] p (inside_of shape subchunk n))) none)
   place_read (Some value) pairs n is low =
       let two = index_product shape subchunk in
       let many = is.many in
       part_is subchunk inner index location elements shape value pairs (n ∷ []) (record { is = is.opened.0; many = omega (arith, two, many) })
-      ∙ (one_there (shard_cell inner elements shape subchunk value pairs n) ∙ ap (option_and_then alone) (shard_place inner elements shape subchunk value pairs n is.cuts is.many low))
+      ∙ (one_there (shard_cell (subchunks_of inner elements shape subchunk) value pairs n) ∙ ap (option_and_then alone) (shard_place inner elements shape subchunk value pairs n is.cuts is.many low))
 
   pub place_shown : (stored : Option (List ℕ)) (pairs : List Pair) (n : ℕ) → IsShardOpened subchunk inner index location elements shape stored pairs → n < product shape
       → get_or (cells_shown (sharded subchunk inner index location) elements shape stored) n None
-      ≡ option_and_then alone (place_decoded inner elements (unwrap_or stored []) (part_shape shape subchunk (subchunk_of shape subchunk n)) (get_or pairs (subchunk_of shape subchunk n) absent_pair) (inside_of shape subchunk n))
+      ≡ option_and_then alone (place_decoded (coded inner elements (part_shape shape subchunk (subchunk_of shape subchunk n))) (unwrap_or stored []) (get_or pairs (subchunk_of shape subchunk n) absent_pair) (inside_of shape subchunk n))
   place_shown stored pairs n is low =
       get_or-map-range_with_len (λ m. chunk_part (sharded subchunk inner index location) elements shape stored (m ∷ [])) 0 (product shape) n n None low (omega arith) ∙ place_read stored pairs n is low
 
@@ -108,15 +109,15 @@ module _ (subchunk : List ℕ) (inner index : Chain) (location : Location) (elem
   -- a place of a subchunk
   subchunk_shown : (stored : Option (List ℕ)) (pairs : List Pair) (k i : ℕ) → IsShardOpened subchunk inner index location elements shape stored pairs → k < length (parts_of shape subchunk) → i < length (places_at shape subchunk k)
       → get_or (taken None (cells_shown (sharded subchunk inner index location) elements shape stored) (places_at shape subchunk k)) i None
-      ≡ option_and_then alone (place_decoded inner elements (unwrap_or stored []) (part_shape shape subchunk k) (get_or pairs k absent_pair) i)
+      ≡ option_and_then alone (place_decoded (coded inner elements (part_shape shape subchunk k)) (unwrap_or stored []) (get_or pairs k absent_pair) i)
   subchunk_shown stored pairs k i is there low =
       let shown = cells_shown (sharded subchunk inner index location) elements shape stored in
       let n = get_or (places_at shape subchunk k) i 0 in
       let tells = place_tells shape subchunk k i is.cuts (record { part = there; place = low }) in
       get_or-map (λ m. get_or shown m None) (places_at shape subchunk k) i 0 None low
       ∙ (place_shown stored pairs n is (place_below shape subchunk k i is.cuts (record { part = there; place = low }))
-      ∙ (ap (λ j. option_and_then alone (place_decoded inner elements (unwrap_or stored []) (part_shape shape subchunk j) (get_or pairs j absent_pair) (inside_of shape subchunk n))) tells.part
-      ∙ ap (λ j. option_and_then alone (place_decoded inner elements (unwrap_or stored []) (part_shape shape subchunk k) (get_or pairs k absent_pair) j)) tells.place))
+      ∙ (ap (λ j. option_and_then alone (place_decoded (coded inner elements (part_shape shape subchunk j)) (unwrap_or stored []) (get_or pairs j absent_pair) (inside_of shape subchunk n))) tells.part
+      ∙ ap (λ j. option_and_then alone (place_decoded (coded inner elements (part_shape shape subchunk k)) (unwrap_or stored []) (get_or pairs k absent_pair) j)) tells.place))
 
   -- a subchunk that is decoded
   pub piece_shown : (stored : Option (List ℕ)) (pairs : List Pair) (k : ℕ) (before : List Cell) → IsShardOpened subchunk inner index location elements shape stored pairs → k < length (parts_of shape subchunk)
@@ -136,7 +137,7 @@ module _ (subchunk : List ℕ) (inner index : Chain) (location : Location) (elem
 
   -- subchunks whose places are read alike
   pub pieces_alike : (old new : Option (List ℕ)) (pairs made : List Pair) (k : ℕ) → IsShardOpened subchunk inner index location elements shape old pairs → IsShardOpened subchunk inner index location elements shape new made → k < length (parts_of shape subchunk)
-      → ((i : ℕ) → place_decoded inner elements (unwrap_or new []) (part_shape shape subchunk k) (get_or made k absent_pair) i ≡ place_decoded inner elements (unwrap_or old []) (part_shape shape subchunk k) (get_or pairs k absent_pair) i)
+      → ((i : ℕ) → place_decoded (coded inner elements (part_shape shape subchunk k)) (unwrap_or new []) (get_or made k absent_pair) i ≡ place_decoded (coded inner elements (part_shape shape subchunk k)) (unwrap_or old []) (get_or pairs k absent_pair) i)
       → taken None (cells_shown (sharded subchunk inner index location) elements shape new) (places_at shape subchunk k) ≡ taken None (cells_shown (sharded subchunk inner index location) elements shape old) (places_at shape subchunk k)
   pieces_alike old new pairs made k one other there same =
       let places = places_at shape subchunk k in

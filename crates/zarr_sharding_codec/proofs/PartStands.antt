@@ -18,9 +18,9 @@ use Rattle.zarr_codecs_regions.proofs.Shown.{put_cells, shown_cells, standing_de
 use Rattle.zarr_codecs_traits.specs.Indexers.{put}
 use Rattle.zarr_codecs_traits.specs.PartWriting.{ChunkTight, cells_shown, only_cell}
 use Rattle.zarr_sharding_changes.specs.Changes.{Change, SliceStandsBy, appended, pairs_after}
-use Rattle.zarr_sharding_state.specs.Held.{HoldsPieces, IsOpened, are_absent}
-use Rattle.zarr_sharding_state.specs.Written.{IsChanged}
-use Rattle.zarr_sharding_state.proofs.Stands.{changed_holds, nothing_left, opened_holds}
+use Rattle.zarr_sharding_index.specs.Held.{HoldsPieces, IsOpened, are_absent}
+use Rattle.zarr_sharding_index.specs.Written.{IsChanged}
+use Rattle.zarr_sharding_index.proofs.Stands.{changed_holds, nothing_left, opened_holds}
 use Rattle.zarr_sharding_codec.specs.PartWriting.{AreChanged, put_at, stored_in}
 use Rattle.zarr_sharding_codec.proofs.NumberedParts.{part_fits}
 use Rattle.zarr_sharding_codec.proofs.PartFill.{all_absent, filled_stand, none_present, pieces_fill, whole_fill}

@@ -1,5 +1,5 @@
 -- A part of an array was written into its shard, or why it wasn't.
-use Rattle.std.proofs.Common.{◌≡◌, ◌⊎◌, ◌∙◌, inl, inr, ℕ, zero, suc, ◌+◌, ◌/◌, ◌<◌, ◌^◌, List, [], ◌∷◌, length, map, get_or, ap, sym, subst, arith, Bool, true, false, Option, Some, None, is_some, IsTrue, MatchOption, Result, Ok, Err}
+use Rattle.std.proofs.Common.{◌≡◌, ◌⊎◌, ◌∙◌, inl, inr, ℕ, zero, suc, ◌+◌, ◌/◌, ◌<◌, ◌^◌, List, [], ◌∷◌, length, get_or, ap, sym, subst, arith, Bool, true, false, Option, Some, None, is_some, IsTrue, MatchOption, Result, Ok, Err}
 use Rattle.std.specs.Prelude.{nat_lt}
 use Rattle.std.specs.List.{list_all}
 use Rattle.std.proofs.lemmas.List.{length-map}
@@ -18,21 +18,21 @@ use Rattle.zarr_codecs_meaning.proofs.Fitting.{fitted}
 use Rattle.zarr_codecs_meaning.proofs.Parts.{index_product, no_part}
 use Rattle.zarr_codecs_traits.specs.Indexers.{Asked, numbers_asked}
 use Rattle.zarr_codecs_traits.specs.Arrays.{coded, update_of}
-use Rattle.zarr_codecs_traits.specs.PartWriting.{AfterPut, AfterWrite, AreMet, AreSlices, IsDamaged, IsEncodedInto, IsNewSlice, MeetsLost, MetRefused, NotEncodedInto, PassesLength, WriteRefuses, after_write, cells_after, is_met}
+use Rattle.zarr_codecs_traits.specs.PartWriting.{AfterPut, AfterWrite, IsDamaged, IsEncodedInto, MeetsLost, MetRefused, NotEncodedInto, PassesLength, WriteRefuses, after_write, cells_after, is_met, write_of}
 use Rattle.zarr_sharding_changes.specs.Changes.{Change, appended, pairs_after}
 use Rattle.zarr_sharding_changes.specs.HeldShards.{held_shard}
 use Rattle.zarr_sharding_places.specs.Locating.{part_shape}
 use Rattle.zarr_sharding_places.specs.Pieces.{piece_decoded}
-use Rattle.zarr_sharding_state.specs.Held.{IsOpened, are_absent}
-use Rattle.zarr_sharding_state.specs.Written.{IsChanged}
-use Rattle.zarr_sharding_state.proofs.Counts.{changed_count}
-use Rattle.zarr_sharding_state.proofs.Reopened.{data_of, opened_ends, opened_length}
-use Rattle.zarr_sharding_state.specs.Opened as opening
+use Rattle.zarr_sharding_index.specs.Held.{IsOpened, are_absent}
+use Rattle.zarr_sharding_index.specs.Written.{IsChanged}
+use Rattle.zarr_sharding_index.proofs.Counts.{changed_count}
+use Rattle.zarr_sharding_index.proofs.Reopened.{data_of, opened_ends, opened_length}
+use Rattle.zarr_sharding_index.specs.Opened as opening
 use Rattle.zarr_sharding_codec.specs.Appending.{ChangesUnwritten, IsTestedPart}
 use Rattle.zarr_sharding_codec.specs.PartWriting.{AreChanged, IsLostAt, IsOf, IsRefusedAt, UpdatesSlices, put_at, stored_in}
 use Rattle.zarr_sharding_codec.proofs.NumberedParts.{part_fewer, part_fits}
 use Rattle.zarr_sharding_codec.proofs.PartFill.{none_present}
-use Rattle.zarr_sharding_codec.proofs.AppendedShard.{are_met, held_opened, is_met_at, new_slices}
+use Rattle.zarr_sharding_codec.proofs.AppendedShard.{are_new_slices, held_opened, is_met_at}
 use Rattle.zarr_sharding_codec.proofs.PartAfter.{after_part, after_piece}
 use Rattle.zarr_sharding_codec.proofs.PartIntact.{lost_meets, part_intact}
 use Rattle.zarr_sharding_codec.proofs.PartKept.{shown_put}
@@ -49,7 +49,7 @@ opened_opens subchunk inner index location elements shape count end None pairs o
 opened_opens subchunk inner index location elements shape count end (Some value) pairs opened = ap is_some opened.0
 
 pub part_encoded : (subchunk : List ℕ) (inner index : Chain) (location : Location) (exact one whole : Bool) (elements : Elements) (shape : List ℕ) (asked : Asked) (payload : Payload) (size : ℕ) (numbers : List ℕ) (old new : Option (List ℕ))
-    → (tested : IsTestedPart (sharded subchunk inner index location) elements shape asked payload size numbers) → IsAppended subchunk inner index location exact one elements shape numbers tested.cells old new → (IsTrue whole → IsTrue exact)
+    → (tested : IsTestedPart (coded (sharded subchunk inner index location) elements shape) asked payload size numbers) → IsAppended subchunk inner index location exact one elements shape numbers tested.cells old new → (IsTrue whole → IsTrue exact)
     → IsEncodedInto (coded (sharded subchunk inner index location) elements shape) whole (update_of asked payload old) tested.cells new
 part_encoded subchunk inner index location exact one whole elements shape asked payload size numbers old new tested appended to_exact =
     let h = subst (λ (ns : List ℕ). IsAppended subchunk inner index location exact one elements shape ns tested.cells old new) tested.numbers_are appended in
@@ -63,19 +63,14 @@ part_encoded subchunk inner index location exact one whole elements shape asked 
       stands = λ lossless before are stands. stands_put subchunk inner index location exact one elements shape ns tested.cells old new h before lossless are stands;
       tight = λ e lossless before are tight. tight_put subchunk inner index location exact one elements shape ns tested.cells old new h before (to_exact e) lossless are tight;
       absent = λ no lossless before are stands filled. absent_put subchunk inner index location exact one elements shape ns tested.cells old new h before lossless are stands filled;
-      encodes = λ e plain. absurd (cc);
+      encodes = λ plain. absurd (cc);
       shows = λ lossless. shown_put subchunk inner index location exact one elements shape ns tested.cells old new h lossless;
     }
 
 -- ---- what isn't opened
 
--- no new slices
-are_no_slices : (made : List ℕ → List Cell → List ℕ → Type 0) (pieces : List Piece) → AreSlices made pieces (map (λ (piece : Piece). None) pieces)
-are_no_slices made [] = tt
-are_no_slices made (piece ∷ pieces) = (tt, are_no_slices made pieces)
-
 -- why elements that were tested are not put
-pub refused_tested : (chain : Chain) (elements : Elements) (shape : List ℕ) (asked : Asked) (payload : Payload) (size : ℕ) (numbers : List ℕ) (stored : Option (List ℕ)) (refuses : List Cell → Type 0) → (tested : IsTestedPart chain elements shape asked payload size numbers)
+pub refused_tested : (chain : Chain) (elements : Elements) (shape : List ℕ) (asked : Asked) (payload : Payload) (size : ℕ) (numbers : List ℕ) (stored : Option (List ℕ)) (refuses : List Cell → Type 0) → (tested : IsTestedPart (coded chain elements shape) asked payload size numbers)
     → refuses (cells_after (coded chain elements shape) stored (numbers_asked shape asked) tested.cells) → AfterPut (coded chain elements shape) (update_of asked payload stored) refuses
 refused_tested chain elements shape asked payload size numbers stored refuses tested is = record { cells = tested.cells; valid = tested.valid; fit = tested.fit; inside = tested.inside; is = is }
 
@@ -87,17 +82,13 @@ refused_among refused fill write (part ∷ parts) zero low met some is = inl (me
 refused_among refused fill write (part ∷ parts) (suc k) low met some is = inr (refused_among refused fill write parts k (omega (arith, low)) met some is)
 
 pub part_unopened : (A : Type 0) (subchunk : List ℕ) (inner index : Chain) (location : Location) (elements : Elements) (shape : List ℕ) (asked : Asked) (payload : Payload) (size : ℕ) (numbers : List ℕ) (old : Option (List ℕ)) (e : CodecError)
-    → IsTestedPart (sharded subchunk inner index location) elements shape asked payload size numbers → opening.OpenRefused index location (index_shape shape subchunk) old e → NotEncodedInto {A = A} (coded (sharded subchunk inner index location) elements shape) (update_of asked payload old) (Err e)
+    → IsTestedPart (coded (sharded subchunk inner index location) elements shape) asked payload size numbers → opening.OpenRefused index location (index_shape shape subchunk) old e → NotEncodedInto {A = A} (coded (sharded subchunk inner index location) elements shape) (update_of asked payload old) (Err e)
 part_unopened A subchunk inner index location elements shape asked payload size numbers None error.Damage tested why = absurd why
 part_unopened A subchunk inner index location elements shape asked payload size numbers (Some value) error.Damage tested why = (tested.fit, inl (damaged_value subchunk inner index location elements shape value (numbers_asked shape asked) why))
 part_unopened A subchunk inner index location elements shape asked payload size numbers None error.Size tested why = absurd why
 part_unopened A subchunk inner index location elements shape asked payload size numbers (Some value) error.Size tested why =
     let chain = sharded subchunk inner index location in
-    let after = cells_after (coded chain elements shape) (Some value) (numbers_asked shape asked) tested.cells in
-    let pieces = pieces_of elements.fill after (parts_of shape subchunk) in
-    let none : List (Option (List ℕ)) = map (λ (piece : Piece). None) pieces in
-    let long : PassesLength chain elements shape (Some value) after = (none, are_no_slices (IsNewSlice inner elements) pieces, omega (arith, why)) in
-    inr (refused_tested chain elements shape asked payload size numbers (Some value) (λ cells. PassesIndex chain elements shape cells ⊎ PassesLength chain elements shape (Some value) cells) tested (inr long))
+    inr (refused_tested chain elements shape asked payload size numbers (Some value) (λ after. PassesIndex chain elements shape after ⊎ PassesLength chain elements shape (write_of (coded chain elements shape) (update_of asked payload (Some value)) after)) tested (inr (inl why)))
 part_unopened A subchunk inner index location elements shape asked payload size numbers old error.Source tested why = tt
 part_unopened A subchunk inner index location elements shape asked payload size numbers old error.Memory tested why = tt
 part_unopened A subchunk inner index location elements shape asked payload size numbers old e tested why = absurd why
@@ -105,10 +96,16 @@ part_unopened A subchunk inner index location elements shape asked payload size 
 -- ---- what isn't updated
 
 module _ (A : Type 0) (subchunk : List ℕ) (inner index : Chain) (location : Location) (exact : Bool) (elements : Elements) (shape : List ℕ) (asked : Asked) (payload : Payload) (size : ℕ) (numbers : List ℕ) (old : Option (List ℕ)) (pairs : List Pair)
-    (tested : IsTestedPart (sharded subchunk inner index location) elements shape asked payload size numbers) (opened : IsShardOpened subchunk inner index location elements shape old pairs)
+    (tested : IsTestedPart (coded (sharded subchunk inner index location) elements shape) asked payload size numbers) (opened : IsShardOpened subchunk inner index location elements shape old pairs)
     (below : list_all (λ n. nat_lt n (product shape)) numbers ≡ true) where
   abbrev after : List Cell
   after = cells_after (coded (sharded subchunk inner index location) elements shape) old (numbers_asked shape asked) tested.cells
+
+  -- an offset or a length is too large, by the cells then
+  abbrev is_long : List Cell → Type 0
+  is_long cells =
+      PassesIndex (sharded subchunk inner index location) elements shape cells
+      ⊎ PassesLength (sharded subchunk inner index location) elements shape (write_of (coded (sharded subchunk inner index location) elements shape) (update_of asked payload old) cells)
 
   after_refused : (refuses : Chain → Elements → List ℕ → List Cell → Type 0) → IsRefusedAt refuses (stored_in inner exact elements old pairs) (put_at shape subchunk numbers tested.cells) → PieceRefused (refuses inner elements) elements.fill (pieces_of elements.fill after (parts_of shape subchunk))
   after_refused refuses why =
@@ -151,8 +148,7 @@ module _ (A : Type 0) (subchunk : List ℕ) (inner index : Chain) (location : Lo
   part_not_updated error.Size (inl large) =
       inl (too_large elements.type (product (part_shape shape subchunk large.number)) (product shape) (part_fewer shape subchunk large.number opened.cuts) large.is)
   part_not_updated error.Size (inr why) =
-      inr (refused_tested (sharded subchunk inner index location) elements shape asked payload size numbers old
-      (λ cells. PassesIndex (sharded subchunk inner index location) elements shape cells ⊎ PassesLength (sharded subchunk inner index location) elements shape old cells) tested (inl (inl (after_refused PassesIndex why))))
+      inr (refused_tested (sharded subchunk inner index location) elements shape asked payload size numbers old is_long tested (inl (inl (after_refused PassesIndex why))))
   part_not_updated error.Source why = tt
   part_not_updated error.Memory why = tt
   part_not_updated e why = absurd why
@@ -173,14 +169,13 @@ module _ (A : Type 0) (subchunk : List ℕ) (inner index : Chain) (location : Lo
         held_shard pairs (data_of location (index_size index pairs_shape) old),
         changes,
         held_opened subchunk index location shape end old pairs held,
-        subst (λ (ns : List ℕ). AreMet ns parts changes) tested.numbers_are (are_met shape subchunk numbers tested.cells (stored_in inner exact elements old pairs) changes opened.cuts opened.many below changed),
-        new_slices subchunk inner index location exact elements shape asked payload size numbers old pairs changes tested opened changed,
-        subst (λ n. CodecRefuses index (zero_filled uint64) pairs_shape (pair_cells (pairs_after n changes pairs))) ends why,
+        are_new_slices subchunk inner index location exact elements shape asked payload size numbers old pairs changes tested opened changed,
+        subst (λ n. are_absent (pairs_after n changes pairs) ≡ false) ends why.0,
+        subst (λ n. CodecRefuses index (zero_filled uint64) pairs_shape (pair_cells (pairs_after n changes pairs))) ends why.1,
       )))
   part_not_written end changes (Err error.Size) held changed why =
       let made = pairs_after end changes pairs in
-      inr (refused_tested (sharded subchunk inner index location) elements shape asked payload size numbers old
-      (λ cells. PassesIndex (sharded subchunk inner index location) elements shape cells ⊎ PassesLength (sharded subchunk inner index location) elements shape old cells) tested (inl (inr (inr (made, changed_count end changes pairs ∙ opened.many, why)))))
+      inr (refused_tested (sharded subchunk inner index location) elements shape asked payload size numbers old is_long tested (inl (inr (inr (made, changed_count end changes pairs ∙ opened.many, why.1)))))
   part_not_written end changes (Err error.Source) held changed why = tt
   part_not_written end changes (Err error.Memory) held changed why = tt
   part_not_written end changes (Err e) held changed why = absurd why
@@ -191,7 +186,7 @@ module _ (A : Type 0) (subchunk : List ℕ) (inner index : Chain) (location : Lo
 pub record IsReady (subchunk : List ℕ) (inner index : Chain) (location : Location) (exact : Bool) (elements : Elements) (shape : List ℕ) (asked : Asked) (payload : Payload) (size : ℕ) (numbers : List ℕ) (old : Option (List ℕ)) (pairs : List Pair) (end : ℕ) (changes : List Change) : Type 0 where
   pub lawful : IsLawfulChain (sharded subchunk inner index location)
   pub fill : is_value elements.type elements.fill ≡ true
-  pub tested : IsTestedPart (sharded subchunk inner index location) elements shape asked payload size numbers
+  pub tested : IsTestedPart (coded (sharded subchunk inner index location) elements shape) asked payload size numbers
   pub count : length pairs ≡ length (parts_of shape subchunk)
   pub opened : IsOpened index location (index_shape shape subchunk) (product (index_shape shape subchunk) / 2) old pairs end
   pub changed : AreChanged (stored_in inner exact elements old pairs) (put_at shape subchunk numbers tested.cells) changes
@@ -223,7 +218,7 @@ ready_appended subchunk inner index location exact one elements shape asked payl
 
 -- what is known of a shard that was opened
 pub ready_opened : (subchunk : List ℕ) (inner index : Chain) (location : Location) (elements : Elements) (shape : List ℕ) (asked : Asked) (payload : Payload) (size : ℕ) (numbers : List ℕ) (old : Option (List ℕ)) (pairs : List Pair) (end : ℕ)
-    → IsTestedPart (sharded subchunk inner index location) elements shape asked payload size numbers → length pairs ≡ length (parts_of shape subchunk) → IsOpened index location (index_shape shape subchunk) (product (index_shape shape subchunk) / 2) old pairs end
+    → IsTestedPart (coded (sharded subchunk inner index location) elements shape) asked payload size numbers → length pairs ≡ length (parts_of shape subchunk) → IsOpened index location (index_shape shape subchunk) (product (index_shape shape subchunk) / 2) old pairs end
     → IsShardOpened subchunk inner index location elements shape old pairs
 ready_opened subchunk inner index location elements shape asked payload size numbers old pairs end tested count opened = record {
   cuts = (fitted subchunk inner index location elements shape tested.fit).cuts;

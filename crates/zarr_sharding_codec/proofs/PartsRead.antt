@@ -2,6 +2,7 @@
 use Rattle.std.proofs.Common.{◌≡◌, ◌∙◌, ℕ, zero, suc, ◌<◌, List, [], ◌∷◌, length, map, get_or, replicate, unwrap_or, ap, sym, refl, arith, subst, Bool, true, false, Option, Some, None, option_and_then, option_map, is_some, if◌then◌else◌, Result, Ok, Err}
 use Rattle.std.specs.List.{list_all}
 use Rattle.std.proofs.lemmas.Bool.{and_parts}
+use Rattle.zarr_grids_boxes.specs.Boxes.{product}
 use Rattle.zarr_codecs_meaning.specs.Chains.{Chain, Location, sharded}
 use Rattle.zarr_codecs_meaning.specs.Decoding.{all_there, cell_at, cell_of_part, is_absent, opens, part_decoded, slice_at}
 use Rattle.zarr_codecs_meaning.specs.Chunks.{chunk_part}
@@ -9,7 +10,7 @@ use Rattle.zarr_codecs_meaning.specs.Encoding.{Pair, absent_pair}
 use Rattle.zarr_codecs_meaning.specs.Payloads.{cells_in}
 use Rattle.zarr_codecs_meaning.specs.Fits.{fits}
 use Rattle.zarr_codecs_meaning.specs.Places.{index_shape, parts_of}
-use Rattle.zarr_codecs_meaning.specs.Types.{Cell, Elements}
+use Rattle.zarr_codecs_meaning.specs.Types.{Cell, Elements, IsTooLarge}
 use Rattle.zarr_codecs_meaning.proofs.Lists.{if_some, some_same}
 use Rattle.zarr_codecs_arrays.specs.Views.{payload_of}
 use Rattle.zarr_codecs_arrays.specs.declared.array_bytes.ArrayBytes.{ArrayBytes}
@@ -19,11 +20,11 @@ use Rattle.zarr_codecs_traits.specs.Indexers.{Asked, are_inside, numbers_asked}
 use Rattle.zarr_codecs_traits.specs.Arrays.{coded}
 use Rattle.zarr_codecs_traits.specs.Outcomes.{DecodesPart}
 use Rattle.zarr_codecs_traits.specs.Sources.{refused_after}
-use Rattle.zarr_sharding_index.specs.Held.{FetchesIndex, FetchesSlice, IsFetched, IsIndexHeld}
+use Rattle.zarr_sharding_index.specs.HeldIndex.{FetchesIndex, FetchesSlice, IsFetched, IsIndexHeld}
 use Rattle.zarr_sharding_index.specs.Present.{all_pairs}
-use Rattle.zarr_sharding_index.specs.declared.held.FetchedIndex.{FetchedIndex}
-use Rattle.zarr_sharding_state.specs.Held.{are_absent}
-use Rattle.zarr_sharding_codec.specs.Reading.{IsTotalOf, Lists, ListsRead, places_decoded, shard_cells, slice_cells}
+use Rattle.zarr_sharding_index.specs.declared.fetched_index.FetchedIndex.{FetchedIndex}
+use Rattle.zarr_sharding_index.specs.Held.{are_absent}
+use Rattle.zarr_sharding_codec.specs.Reading.{IsTotalOf, Lists, ListsRead, places_decoded, shard_cells, slice_cells, subchunks_of}
 use Rattle.zarr_sharding_codec.proofs.AllThere.{one_lost}
 use Rattle.zarr_sharding_codec.proofs.ClosedValues.{closed_cell}
 
@@ -58,14 +59,14 @@ lists_unrefused elements shape found (Err e) count h = refl
 
 -- ---- places of one subchunk
 
-pub absent_places : (inner : Chain) (elements : Elements) (value shape : List ℕ) (pair : Pair) (places : List ℕ) → is_absent pair ≡ true → places_decoded inner elements value shape pair places ≡ Some (replicate (length places) elements.fill)
+pub absent_places : (inner : Chain) (elements : Elements) (value shape : List ℕ) (pair : Pair) (places : List ℕ) → is_absent pair ≡ true → places_decoded (coded inner elements shape) value pair places ≡ Some (replicate (length places) elements.fill)
 absent_places inner elements value shape pair [] absent = refl
 absent_places inner elements value shape pair (n ∷ ns) absent =
-    ap (λ (b : Bool). option_and_then (λ x. option_map (λ xs. x ∷ xs) (places_decoded inner elements value shape pair ns)) (if b then Some elements.fill else option_and_then (λ slice. cell_at inner elements shape slice n) (slice_at value pair))) absent
+    ap (λ (b : Bool). option_and_then (λ x. option_map (λ xs. x ∷ xs) (places_decoded (coded inner elements shape) value pair ns)) (if b then Some elements.fill else option_and_then (λ slice. cell_at inner elements shape slice n) (slice_at value pair))) absent
     ∙ ap (option_map (λ xs. elements.fill ∷ xs)) (absent_places inner elements value shape pair ns absent)
 
 pub present_places : (inner : Chain) (elements : Elements) (value shape : List ℕ) (pair : Pair) (slice : Option (List ℕ)) (places : List ℕ) → is_absent pair ≡ false → slice_at value pair ≡ slice
-    → places_decoded inner elements value shape pair places ≡ all_there (map (λ i. option_and_then (λ s. cell_at inner elements shape s i) slice) places)
+    → places_decoded (coded inner elements shape) value pair places ≡ all_there (map (λ i. option_and_then (λ s. cell_at inner elements shape s i) slice) places)
 present_places inner elements value shape pair slice places present is =
     ap (λ (b : Bool). all_there (map (λ i. if b then Some elements.fill else option_and_then (λ s. cell_at inner elements shape s i) (slice_at value pair)) places)) present
     ∙ ap (λ (o : Option (List ℕ)). all_there (map (λ i. option_and_then (λ s. cell_at inner elements shape s i) o) places)) is
@@ -75,8 +76,22 @@ lists_read elements shape found (Ok bytes) h = h
 lists_read elements shape found (Err error.Source) h = tt
 lists_read elements shape found (Err e) h = h
 
+-- as many fill values as a shape has places, read of that many places of an absent subchunk
+pub fill_places : (inner : Chain) (elements : Elements) (value shape filled : List ℕ) (pair : Pair) (places : List ℕ) (result : Result ArrayBytes CodecError) → is_absent pair ≡ true → length places ≡ product filled
+    → (IsTooLarge elements.type (product filled) → IsTooLarge elements.type (product shape)) → Lists elements filled (Some (replicate (product filled) elements.fill)) result → ListsRead elements shape (places_decoded (coded inner elements shape) value pair places) result
+fill_places inner elements value shape filled pair places (Ok bytes) absent many larger made = record {
+  cells = made.cells;
+  is = absent_places inner elements value shape pair places absent ∙ (ap (λ k. Some (replicate k elements.fill)) many ∙ made.is);
+  lists = made.lists;
+}
+fill_places inner elements value shape filled pair places (Err error.Source) absent many larger made = tt
+fill_places inner elements value shape filled pair places (Err error.Size) absent many larger made = larger made
+fill_places inner elements value shape filled pair places (Err error.Memory) absent many larger made = tt
+fill_places inner elements value shape filled pair places (Err error.Damage) absent many larger made = cc
+fill_places inner elements value shape filled pair places (Err e) absent many larger made = absurd made
+
 pub slice_unread : (inner : Chain) (elements : Elements) (value shape : List ℕ) (pair : Pair) (places : List ℕ) (e : CodecError) → is_absent pair ≡ false → 0 < length places → FetchesSlice value pair (Err e)
-    → ListsRead elements shape (places_decoded inner elements value shape pair places) (Err e)
+    → ListsRead elements shape (places_decoded (coded inner elements shape) value pair places) (Err e)
 slice_unread inner elements value shape pair places error.Damage present some lost =
     present_places inner elements value shape pair None places present lost ∙ one_lost (λ i. None) places 0 some refl
 slice_unread inner elements value shape pair places error.Source present some lost = tt
@@ -90,12 +105,12 @@ pub value_total : (contents : Option (List ℕ)) (pairs : List Pair) (total : �
 value_total contents pairs total value is long = subst (λ (o : Option (List ℕ)). IsTotalOf o pairs total) (sym is) long
 
 pub value_read : (inner : Chain) (elements : Elements) (shape subchunk : List ℕ) (contents : Option (List ℕ)) (value : List ℕ) (pairs : List Pair) (numbers : List ℕ) (result : Result ArrayBytes CodecError) → contents ≡ Some value
-    → ListsRead elements shape (shard_cells inner elements shape subchunk (unwrap_or contents []) pairs numbers) result → ListsRead elements shape (shard_cells inner elements shape subchunk value pairs numbers) result
+    → ListsRead elements shape (shard_cells (subchunks_of inner elements shape subchunk) (unwrap_or contents []) pairs numbers) result → ListsRead elements shape (shard_cells (subchunks_of inner elements shape subchunk) value pairs numbers) result
 value_read inner elements shape subchunk contents value pairs numbers result is read =
-    subst (λ (o : Option (List ℕ)). ListsRead elements shape (shard_cells inner elements shape subchunk (unwrap_or o []) pairs numbers) result) is read
+    subst (λ (o : Option (List ℕ)). ListsRead elements shape (shard_cells (subchunks_of inner elements shape subchunk) (unwrap_or o []) pairs numbers) result) is read
 
 -- where a subchunk is present, there is a value
-absent_there : (pairs : List Pair) (k : ℕ) → are_absent pairs ≡ true → k < length pairs → is_absent (get_or pairs k absent_pair) ≡ true
+pub absent_there : (pairs : List Pair) (k : ℕ) → are_absent pairs ≡ true → k < length pairs → is_absent (get_or pairs k absent_pair) ≡ true
 absent_there [] k all low = refl
 absent_there (p ∷ ps) zero all low = (and_parts (is_absent p) (list_all is_absent ps) all).0
 absent_there (p ∷ ps) (suc k) all low = absent_there ps k (and_parts (is_absent p) (list_all is_absent ps) all).1 (omega (arith, low))
@@ -107,14 +122,14 @@ present_value (Some value) pairs total k told low there = (refl, sym told)
 -- ---- a part of a shard
 
 pub part_is : (subchunk : List ℕ) (inner index : Chain) (location : Location) (elements : Elements) (shape value : List ℕ) (pairs : List Pair) (numbers : List ℕ) → IsIndexHeld index location (index_shape shape subchunk) value pairs
-    → part_decoded (sharded subchunk inner index location) elements shape value numbers ≡ shard_cells inner elements shape subchunk value pairs numbers
+    → part_decoded (sharded subchunk inner index location) elements shape value numbers ≡ shard_cells (subchunks_of inner elements shape subchunk) value pairs numbers
 part_is subchunk inner index location elements shape value pairs numbers held =
     let meet = λ (n : ℕ). cell_of_part (cell_at inner elements) elements.fill value n (parts_of shape subchunk) in
     ap (λ (o : Option (List Pair)). if is_some o then all_there (map (λ n. option_and_then (meet n) o) numbers) else None) held.is
 
 pub part_found : (subchunk : List ℕ) (inner index : Chain) (location : Location) (elements : Elements) (shape value : List ℕ) (pairs : List Pair) (numbers : List ℕ) (asked : Asked) (result : Result ArrayBytes CodecError)
     → fits (sharded subchunk inner index location) elements.type shape ≡ true → are_inside shape asked ≡ true → numbers ≡ numbers_asked shape asked → IsIndexHeld index location (index_shape shape subchunk) value pairs
-    → ListsRead elements shape (shard_cells inner elements shape subchunk value pairs numbers) result → DecodesPart (coded (sharded subchunk inner index location) elements shape) (Some value) asked result
+    → ListsRead elements shape (shard_cells (subchunks_of inner elements shape subchunk) value pairs numbers) result → DecodesPart (coded (sharded subchunk inner index location) elements shape) (Some value) asked result
 part_found subchunk inner index location elements shape value pairs numbers asked (Ok bytes) fit inside are held found = record {
   cells = found.cells;
   fit = fit;

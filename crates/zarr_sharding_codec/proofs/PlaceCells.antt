@@ -14,9 +14,10 @@ use Rattle.zarr_codecs_meaning.proofs.PartsOnce.{number_in}
 use Rattle.zarr_codecs_meaning.proofs.Positions.{among_at, position_found, position_read}
 use Rattle.zarr_sharding_places.proofs.PartPlaces.{IsPlace, places_apart}
 use Rattle.zarr_sharding_places.specs.Locating.{inside_of, part_shape, subchunk_of}
-use Rattle.zarr_sharding_codec.specs.Reading.{place_decoded, shard_cell}
+use Rattle.zarr_sharding_codec.specs.Reading.{place_decoded, shard_cell, subchunks_of}
 use Rattle.zarr_sharding_codec.proofs.NumberedParts.{part_count, part_is}
 use Rattle.zarr_sharding_codec.proofs.LocatedParts.{located_place}
+use Rattle.zarr_codecs_traits.specs.Arrays.{coded}
 
 -- a place is found first in this part, where it stands so far
 record IsFirst (parts : List Part) (n k i : ℕ) : Type 0 where
@@ -69,15 +70,15 @@ first_here shape subchunk n k i cuts is here =
     }
 
 pub shard_place : (inner : Chain) (elements : Elements) (shape subchunk value : List ℕ) (pairs : List Pair) (n : ℕ) → can_cut shape subchunk ≡ true → length pairs ≡ length (parts_of shape subchunk) → n < product shape
-    → shard_cell inner elements shape subchunk value pairs n
-    ≡ place_decoded inner elements value (part_shape shape subchunk (subchunk_of shape subchunk n)) (get_or pairs (subchunk_of shape subchunk n) absent_pair) (inside_of shape subchunk n)
+    → shard_cell (subchunks_of inner elements shape subchunk) value pairs n
+    ≡ place_decoded (coded inner elements (part_shape shape subchunk (subchunk_of shape subchunk n))) value (get_or pairs (subchunk_of shape subchunk n) absent_pair) (inside_of shape subchunk n)
 shard_place inner elements shape subchunk value pairs n cuts same below =
     let k = subchunk_of shape subchunk n in
     let i = inside_of shape subchunk n in
     let located = located_place shape subchunk n cuts below in
     let is = first_here shape subchunk n k i cuts (record { part = located.part; place = located.place }) located.here in
     met_cell (cell_at inner elements) elements.fill value n (parts_of shape subchunk) pairs k i same is
-    ∙ ap (λ (s : List ℕ). place_decoded inner elements value s (get_or pairs k absent_pair) i) (part_is shape subchunk k no_part located.part)
+    ∙ ap (λ (s : List ℕ). place_decoded (coded inner elements s) value (get_or pairs k absent_pair) i) (part_is shape subchunk k no_part located.part)
 
 -- a place is one of its subchunk's
 pub inside_below : (shape subchunk : List ℕ) (n : ℕ) → can_cut shape subchunk ≡ true → n < product shape → inside_of shape subchunk n < product (part_shape shape subchunk (subchunk_of shape subchunk n))

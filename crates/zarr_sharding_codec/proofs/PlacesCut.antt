@@ -17,7 +17,7 @@ use Rattle.zarr_sharding_places.specs.Groups.{no_place}
 use Rattle.zarr_sharding_places.specs.Groups as groups
 use Rattle.zarr_sharding_places.specs.Locating.{asked_place, asked_places, part_shape}
 use Rattle.zarr_sharding_places.specs.declared.locating.AskedPlace.{AskedPlace}
-use Rattle.zarr_sharding_codec.specs.BoxReading.{AreMet, IsCutOut, StandIn}
+use Rattle.zarr_sharding_codec.specs.BoxReading.{AreMet, IsCutOut, StandIn, cut_places}
 use Rattle.zarr_sharding_codec.specs.declared.box_reading.BoxCut.{BoxCut}
 use Rattle.zarr_sharding_codec.specs.Pieces.{AskedPart, CanBeAsked, IsReadFor, asked_numbers, inside_at, part_array, positions_in, subchunk_at, subchunk_in}
 use Rattle.zarr_sharding_codec.proofs.BoxInSubchunk.{numbers_many}
@@ -34,9 +34,9 @@ BoxDone part met j t = (i : ℕ) × (i < j) × (subchunk_at part t ≡ get_or me
 module _ (part : AskedPart) (region : Region) (box : part.asked ≡ in_box region) where
   -- as the box stands in the subchunk
   box_stands : (k : ℕ) (cut : BoxCut) → IsCutOut part.array.shape (subchunk_in part.array.chain) region k cut
-      → StandIn part.array.shape (subchunk_in part.array.chain) (numbers_of part.array.shape region) (numbers_of region.shape (region_of cut.target)) (numbers_of (part_array part.array k).shape (region_of cut.inside.region)) k
+      → StandIn (cut_places part.array.shape (subchunk_in part.array.chain) (numbers_of part.array.shape region)) (numbers_of region.shape (region_of cut.target)) (numbers_of (part_array part.array k).shape (region_of cut.inside.region)) k
   box_stands k cut out =
-      subst (λ (edges : List ℕ). StandIn part.array.shape (subchunk_in part.array.chain) (numbers_of part.array.shape region) (numbers_of region.shape (region_of cut.target)) (numbers_of edges (region_of cut.inside.region)) k) out.edges out.stand
+      subst (λ (edges : List ℕ). StandIn (cut_places part.array.shape (subchunk_in part.array.chain) (numbers_of part.array.shape region)) (numbers_of region.shape (region_of cut.target)) (numbers_of edges (region_of cut.inside.region)) k) out.edges out.stand
 
   pub box_reads : (k : ℕ) (cut : BoxCut) → IsCutOut part.array.shape (subchunk_in part.array.chain) region k cut → IsReadFor part k (places.InBox cut.inside.region cut.target)
   box_reads k cut out =

@@ -32,7 +32,7 @@ use Rattle.zarr_sharding_places.proofs.PartPlaces.{IsPlace, place_below, places_
 use Rattle.zarr_sharding_places.proofs.PutPlaces.{length-put, put_cases}
 use Rattle.zarr_sharding_places.proofs.ReadPieces.{ShowsPiece, ShowsPieces, piece_at, piece_count, shown_all}
 use Rattle.zarr_sharding_codec.specs.Pieces.{AreDecoded, AreSliced, DecodesSlice, no_slice, whole_slice}
-use Rattle.zarr_sharding_codec.specs.Reading.{DecodesPieces, Lists}
+use Rattle.zarr_sharding_codec.specs.Reading.{DecodesPieces, Lists, subchunks_of}
 use Rattle.zarr_sharding_codec.proofs.DecodedShard.{decode_lost}
 use Rattle.zarr_sharding_codec.proofs.NumberedParts.{part_count, part_fits, part_is, part_number, region_numbers}
 use Rattle.zarr_sharding_codec.proofs.StoredLoop.{is_subchunk}
@@ -224,7 +224,7 @@ module _ (subchunk : List ℕ) (inner index : Chain) (location : Location) (elem
       (subst (λ (ps : List Pair). ShowsPieces inner elements value parts ps so_far.cells (length parts)) same so_far.pieces)
 
   -- a slice that isn't decoded
-  pub put_lost : (j : ℕ) (e : CodecError) → j < length slices → DecodesSlice (coded (sharded subchunk inner index location) elements shape) value (get_or slices j no_slice) (Err e) → DecodesPieces inner elements shape subchunk value pairs (Err e)
+  pub put_lost : (j : ℕ) (e : CodecError) → j < length slices → DecodesSlice (coded (sharded subchunk inner index location) elements shape) value (get_or slices j no_slice) (Err e) → DecodesPieces (subchunks_of inner elements shape subchunk) value pairs (Err e)
   put_lost j e low decodes =
       let at = sliced_at pairs slices j sliced low in
       let p = get_or sliced.present j no_pair in

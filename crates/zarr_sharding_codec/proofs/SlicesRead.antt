@@ -11,7 +11,7 @@ use Rattle.zarr_codecs_traits.specs.Pieces.{refused_by_pieces}
 use Rattle.zarr_codecs_traits.specs.declared.pieces.PiecePlaces.{PiecePlaces}
 use Rattle.zarr_codecs_traits.specs.declared.pieces.PieceSlice.{PieceSlice}
 use Rattle.zarr_codecs_traits.specs.declared.pieces.ValuePieces.{ValuePieces}
-use Rattle.zarr_sharding_index.specs.Held.{FetchesSlice}
+use Rattle.zarr_sharding_index.specs.HeldIndex.{FetchesSlice}
 use Rattle.zarr_sharding_index.specs.Views.{pair_of}
 use Rattle.zarr_sharding_codec.specs.Pieces.{AreRead, ArePartRead, AskedPart, CanBeAsked, HasNoPiece, IsBehind, IsCovered, IsPushed, IsReadFor, IsSkipped, IsSliceRead, ReadsMore, asked_numbers, asked_piece, cells_asked, no_slice, part_array, positions_in, refused_reading, subchunk_at}
 use Rattle.zarr_sharding_codec.specs.Reading.{ListsRead}

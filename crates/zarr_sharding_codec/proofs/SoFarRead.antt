@@ -21,11 +21,12 @@ use Rattle.zarr_sharding_places.specs.Locating.{asked_places, part_shape}
 use Rattle.zarr_sharding_places.specs.Placed.{Shows}
 use Rattle.zarr_sharding_places.specs.declared.locating.AskedPlace.{AskedPlace}
 use Rattle.zarr_sharding_places.specs.declared.placed.PlacedElements.{PlacedElements}
-use Rattle.zarr_sharding_codec.specs.Reading.{ListsRead, places_decoded, shard_cells}
+use Rattle.zarr_sharding_codec.specs.Reading.{ListsRead, places_decoded, shard_cells, subchunks_of}
 use Rattle.zarr_sharding_codec.proofs.NumberedParts.{part_fewer}
 use Rattle.zarr_sharding_codec.proofs.GroupsRead as groups
 use Rattle.zarr_sharding_codec.proofs.GroupsRead.{AskedShard, IsAskable, IsAsked, IsRead, all_asked, all_read, group_lost, group_put, insides, piece_cells, piece_many, positions, put_whole}
 use Rattle.zarr_sharding_codec.proofs.StoredLoop.{too_large}
+use Rattle.zarr_codecs_traits.specs.Arrays.{coded}
 
 -- the number of the first place's subchunk, its pair and its shape
 abbrev pub number_at : List AskedPlace → ℕ
@@ -63,11 +64,11 @@ each_middle P (y ∷ ys) here after are = each_middle P ys here after are.1
 
 -- what is read of a group is the same where the source holds the same as before
 pub read_before : (s : AskedShard) (one other : Option (List ℕ)) (edges : List ℕ) (group : List AskedPlace) (result : Result ArrayBytes CodecError) → one ≡ other → edges ≡ shape_at s group
-    → ListsRead s.elements edges (places_decoded s.inner s.elements (unwrap_or other []) edges (pair_at s group) (insides group)) result
-    → ListsRead s.elements (shape_at s group) (places_decoded s.inner s.elements (unwrap_or one []) (shape_at s group) (pair_at s group) (insides group)) result
+    → ListsRead s.elements edges (places_decoded (coded s.inner s.elements edges) (unwrap_or other []) (pair_at s group) (insides group)) result
+    → ListsRead s.elements (shape_at s group) (places_decoded (coded s.inner s.elements (shape_at s group)) (unwrap_or one []) (pair_at s group) (insides group)) result
 read_before s one other edges group result same is read =
-    subst (λ (o : Option (List ℕ)). ListsRead s.elements (shape_at s group) (places_decoded s.inner s.elements (unwrap_or o []) (shape_at s group) (pair_at s group) (insides group)) result) (sym same)
-    (subst (λ (e : List ℕ). ListsRead s.elements e (places_decoded s.inner s.elements (unwrap_or other []) e (pair_at s group) (insides group)) result) is read)
+    subst (λ (o : Option (List ℕ)). ListsRead s.elements (shape_at s group) (places_decoded (coded s.inner s.elements (shape_at s group)) (unwrap_or o []) (pair_at s group) (insides group)) result) (sym same)
+    (subst (λ (e : List ℕ). ListsRead s.elements e (places_decoded (coded s.inner s.elements e) (unwrap_or other []) (pair_at s group) (insides group)) result) is read)
 
 -- the places that are left are some of all
 pub record IsLeft (places rest : List AskedPlace) : Type 0 where
@@ -102,7 +103,7 @@ so_far_more s before after places rest group others piece can moved so_far cut o
 
 -- all places were read
 pub so_far_all : (s : AskedShard) (all : PlacedElements) (places rest : List AskedPlace) → IsPermutation (asked_places s.shape s.subchunk s.numbers) places → (so_far : ReadSoFar s all places rest) → length rest ≤ 0
-    → shard_cells s.inner s.elements s.shape s.subchunk s.value s.pairs s.numbers ≡ Some so_far.cells
+    → shard_cells (subchunks_of s.inner s.elements s.shape s.subchunk) s.value s.pairs s.numbers ≡ Some so_far.cells
 so_far_all s all places (place ∷ rest) moved so_far none = absurd (omega (arith, none))
 so_far_all s all places [] moved so_far none =
     let e : so_far.done ≡ places = sym (append-nil so_far.done) ∙ so_far.split in
@@ -110,7 +111,7 @@ so_far_all s all places [] moved so_far none =
 
 -- a group that isn't read
 pub group_unread : (s : AskedShard) (group : List AskedPlace) (e : CodecError) → IsAskable s → Each (IsAsked s) group → IsGroup group → ListsRead s.elements (shape_at s group) (piece_cells s (number_at group) (insides group)) (Err e)
-    → ListsRead s.elements s.shape (shard_cells s.inner s.elements s.shape s.subchunk s.value s.pairs s.numbers) (Err e)
+    → ListsRead s.elements s.shape (shard_cells (subchunks_of s.inner s.elements s.shape s.subchunk) s.value s.pairs s.numbers) (Err e)
 group_unread s group error.Damage can asked one lost = group_lost s (number_at group) group can (is_group s group asked one) lost
 group_unread s group error.Size can asked one large = too_large s.elements.type (product (shape_at s group)) (product s.shape) (part_fewer s.shape s.subchunk (number_at group) can.cuts) large
 group_unread s group error.Source can asked one h = tt

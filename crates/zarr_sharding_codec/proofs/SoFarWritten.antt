@@ -23,9 +23,9 @@ use Rattle.zarr_sharding_places.specs.Groups.{IsGroup, no_place, places_in}
 use Rattle.zarr_sharding_places.specs.Locating.{asked_place, asked_places, inside_of, part_shape, subchunk_of}
 use Rattle.zarr_sharding_places.specs.Pieces.{piece_decoded}
 use Rattle.zarr_sharding_places.specs.declared.locating.AskedPlace.{AskedPlace}
-use Rattle.zarr_sharding_state.specs.Views.{is_below}
-use Rattle.zarr_sharding_state.specs.declared.writing.SliceChange.{SliceChange}
-use Rattle.zarr_sharding_codec.specs.PartWriting.{AreChanged, AreUpdated, HasChange, IsGroupUpdated, IsMet, IsUpdated, Put, Stored, UpdatesGroup, UpdatesSlices, cells_put, given_in, group_put, insides, number_at, numbers_in, positions}
+use Rattle.zarr_sharding_index.specs.SliceChanges.{is_below}
+use Rattle.zarr_sharding_index.specs.declared.slice_changes.SliceChange.{SliceChange}
+use Rattle.zarr_sharding_codec.specs.PartWriting.{AreChanged, AreUpdated, HasChange, IsGroupUpdated, IsMet, IsUpdated, Put, Stored, UpdatesGroup, UpdatesSlices, cells_put, given_group, given_in, group_put, insides, number_at, numbers_in, positions}
 use Rattle.zarr_sharding_codec.specs.Slices.{IsPieceStored}
 use Rattle.zarr_sharding_codec.proofs.GroupsRead.{AskedShard, IsAskable, IsAsked, StandsAt, stands_at, subchunk_below}
 use Rattle.zarr_sharding_codec.proofs.PutPieces.{given_asked, insides_asked}
@@ -200,7 +200,7 @@ module _ (s : AskedShard) (exact : Bool) (cells : List Cell) (k : ℕ) (group : 
   put_is : (before : List Cell) → group_put s.elements.fill group cells before ≡ cells_put (put_as s cells) k before
   put_is before = ap (λ ns. put ns (gather s.elements.fill cells (positions group)) before) insides_are ∙ ap (λ (cs : List Cell). put (numbers_in s.shape s.subchunk k s.numbers) cs before) given_are
 
-  pub part_updated : (change : Change) → IsGroupUpdated (stored_as s exact) (part_shape s.shape s.subchunk k) k group cells change → IsUpdated (stored_as s exact) (put_as s cells) change
+  pub part_updated : (change : Change) → IsGroupUpdated (stored_as s exact) (given_group (part_shape s.shape s.subchunk k) k group cells) change → IsUpdated (stored_as s exact) (put_as s cells) change
   part_updated change is =
       let low = has.below in
       let number = is.number in
@@ -214,7 +214,7 @@ module _ (s : AskedShard) (exact : Bool) (cells : List Cell) (k : ℕ) (group : 
         slice = subst (λ (n : ℕ). IsPieceStored s.inner exact s.elements (part_shape s.shape s.subchunk n, cells_put (put_as s cells) n is.before) change.1) (sym number) here;
       }
 
-  pub part_unwritten : (e : CodecError) → UpdatesGroup (stored_as s exact) (part_shape s.shape s.subchunk k) k group cells (Err e) → UpdatesSlices (stored_as s exact) (put_as s cells) (Err e)
+  pub part_unwritten : (e : CodecError) → UpdatesGroup (stored_as s exact) (given_group (part_shape s.shape s.subchunk k) k group cells) (Err e) → UpdatesSlices (stored_as s exact) (put_as s cells) (Err e)
   part_unwritten error.Damage why = record { number = k; below = has.below; met = has.met; lost = why }
   part_unwritten error.Codec why = record {
     number = k;
@@ -255,10 +255,10 @@ module _ (s : AskedShard) (exact : Bool) (cells : List Cell) (places rest group 
     all = sym (group_is places rest group others front) ∙ writing.stable (number_of group);
   }
 
-  pub group_updated : (change : Change) → IsGroupUpdated (stored_as s exact) (part_shape s.shape s.subchunk (number_of group)) (number_of group) group cells change → IsUpdated (stored_as s exact) (put_as s cells) change
+  pub group_updated : (change : Change) → IsGroupUpdated (stored_as s exact) (given_group (part_shape s.shape s.subchunk (number_of group)) (number_of group) group cells) change → IsUpdated (stored_as s exact) (put_as s cells) change
   group_updated change is = part_updated s exact cells (number_of group) group group_whole change is
 
-  pub group_unwritten : (e : CodecError) → UpdatesGroup (stored_as s exact) (part_shape s.shape s.subchunk (number_of group)) (number_of group) group cells (Err e) → UpdatesSlices (stored_as s exact) (put_as s cells) (Err e)
+  pub group_unwritten : (e : CodecError) → UpdatesGroup (stored_as s exact) (given_group (part_shape s.shape s.subchunk (number_of group)) (number_of group) group cells) (Err e) → UpdatesSlices (stored_as s exact) (put_as s cells) (Err e)
   group_unwritten e why = part_unwritten s exact cells (number_of group) group group_whole e why
 
 -- ---- several subchunks
@@ -290,7 +290,7 @@ pub number_last : (changes : List Change) (change : Change) → number_at (chang
 number_last changes change = ap (λ (c : Change). c.0) (get_or-append-add changes (change ∷ []) 0 (0, None))
 
 pub updated_more : (s : AskedShard) (exact : Bool) (cells : List Cell) (places rest group others : List AskedPlace) (changes : List Change) (change : Change) → IsWriting s cells places → IsFront places rest group others → UpdatedSoFar s exact cells places rest changes
-    → IsGroupUpdated (stored_as s exact) (part_shape s.shape s.subchunk (number_of group)) (number_of group) group cells change → UpdatedSoFar s exact cells places others (changes ++ change ∷ [])
+    → IsGroupUpdated (stored_as s exact) (given_group (part_shape s.shape s.subchunk (number_of group)) (number_of group) group cells) change → UpdatedSoFar s exact cells places others (changes ++ change ∷ [])
 updated_more s exact cells places rest group others changes change writing front so_far is = record {
   done = so_far.done ++ group;
   split = append_assoc so_far.done group others ∙ (ap (λ ps. so_far.done ++ ps) front.all ∙ so_far.split);

@@ -16,7 +16,7 @@ use Rattle.zarr_codecs_meaning.proofs.Fitting.{fitted}
 use Rattle.zarr_codecs_arrays.specs.Outcomes.{IsValid}
 use Rattle.zarr_codecs_arrays.specs.declared.error.CodecError.{CodecError}
 use Rattle.zarr_codecs_arrays.specs.declared.error.CodecError.TheVariants as error
-use Rattle.zarr_sharding_codec.specs.Slices.{AreLaidOut, ArePiecesStored, IsPieceStored, StoresPiece, StoresPieces}
+use Rattle.zarr_sharding_codec.specs.Slices.{AreLaidOut, ArePiecesStored, IsPieceStored, StoresPiece, StoresPieces, piece_coding}
 use Rattle.zarr_sharding_places.specs.Locating.{part_shape}
 use Rattle.zarr_sharding_codec.proofs.NumberedParts.{part_at, part_count, part_fewer, part_number}
 use Rattle.zarr_sharding_codec.proofs.StoredParts.{refused_at, slice_pushed, stored_more}
@@ -63,9 +63,9 @@ piece_valid elements shape subchunk edges numbers n cells whole payload fill is 
 
 -- what is stored of one subchunk more is laid out behind the others
 pub stored_step : (inner : Chain) (exact : Bool) (elements : Elements) (shape subchunk edges : List ℕ) (n base : ℕ) (cells : List Cell) («data» more : List ℕ) (pairs index : List Pair) (slice : Option (List ℕ)) → IsSubchunk shape subchunk n → edges ≡ part_shape shape subchunk n
-    → AreLaidOut inner exact elements (take n (pieces_of elements.fill cells (parts_of shape subchunk))) base «data» pairs → IsPieceStored inner exact elements (edges, gather elements.fill cells (part_at shape subchunk n).places) slice
+    → AreLaidOut (piece_coding inner exact elements) (take n (pieces_of elements.fill cells (parts_of shape subchunk))) base «data» pairs → IsPieceStored inner exact elements (edges, gather elements.fill cells (part_at shape subchunk n).places) slice
     → more ≡ «data» ++ slice_bytes slice → index ≡ pairs ++ pair_at (base + length «data») slice ∷ []
-    → AreLaidOut inner exact elements (take (n + 1) (pieces_of elements.fill cells (parts_of shape subchunk))) base more index
+    → AreLaidOut (piece_coding inner exact elements) (take (n + 1) (pieces_of elements.fill cells (parts_of shape subchunk))) base more index
 stored_step inner exact elements shape subchunk edges n base cells «data» more pairs index slice is same laid one is_more is_index =
     let pieces = pieces_of elements.fill cells (parts_of shape subchunk) in
     let places = (part_at shape subchunk n).places in
@@ -84,11 +84,11 @@ stored_step inner exact elements shape subchunk edges n base cells «data» more
     }
 
 pub stored_end : (inner : Chain) (exact : Bool) (elements : Elements) (shape subchunk : List ℕ) (n base : ℕ) (cells : List Cell) («data» : List ℕ) (pairs : List Pair) → product (grid_of shape subchunk) ≤ n
-    → AreLaidOut inner exact elements (take n (pieces_of elements.fill cells (parts_of shape subchunk))) base «data» pairs → AreLaidOut inner exact elements (pieces_of elements.fill cells (parts_of shape subchunk)) base «data» pairs
+    → AreLaidOut (piece_coding inner exact elements) (take n (pieces_of elements.fill cells (parts_of shape subchunk))) base «data» pairs → AreLaidOut (piece_coding inner exact elements) (pieces_of elements.fill cells (parts_of shape subchunk)) base «data» pairs
 stored_end inner exact elements shape subchunk n base cells «data» pairs past laid =
     let pieces = pieces_of elements.fill cells (parts_of shape subchunk) in
     let count = length-pieces elements.fill cells shape subchunk in
-    subst (λ (ps : List Piece). AreLaidOut inner exact elements ps base «data» pairs) (take_all n pieces (omega (arith, count, past))) laid
+    subst (λ (ps : List Piece). AreLaidOut (piece_coding inner exact elements) ps base «data» pairs) (take_all n pieces (omega (arith, count, past))) laid
 
 -- ---- a subchunk that is refused
 
@@ -111,7 +111,7 @@ refused_piece refuses fill cells shape subchunk edges n is same some one =
     (subst (λ (piece : Piece). refuses piece.0 piece.1) number (subst (λ (s : List ℕ). refuses s (gather fill cells (part_at shape subchunk n).places)) same one))
 
 pub refused_step : (inner : Chain) (exact : Bool) (elements : Elements) (shape subchunk edges : List ℕ) (n base : ℕ) (cells : List Cell) (e : CodecError) → IsSubchunk shape subchunk n → edges ≡ part_shape shape subchunk n
-    → StoresPiece inner exact elements (edges, gather elements.fill cells (part_at shape subchunk n).places) (Err e) → StoresPieces inner exact elements shape (pieces_of elements.fill cells (parts_of shape subchunk)) base (Err e)
+    → StoresPiece inner exact elements (edges, gather elements.fill cells (part_at shape subchunk n).places) (Err e) → StoresPieces (piece_coding inner exact elements) shape (pieces_of elements.fill cells (parts_of shape subchunk)) base (Err e)
 refused_step inner exact elements shape subchunk edges n base cells error.Codec is same h = refused_piece (CodecRefuses inner elements) elements.fill cells shape subchunk edges n is same h.0 h.1
 refused_step inner exact elements shape subchunk edges n base cells error.Size is same (inl h) =
     inl (too_large elements.type (product edges) (product shape) (subst (λ m. m ≤ product shape) (ap product (sym same)) (part_fewer shape subchunk n is.cuts)) h)

@@ -1,5 +1,5 @@
 -- What is stored of a shard's subchunks.
-use Rattle.std.proofs.Common.{◌≡◌, ℕ, zero, suc, ◌+◌, ◌*◌, ◌<◌, List, [], ◌∷◌, ◌++◌, length, get_or, ap, ◌∙◌, sym, refl, arith, subst, inl, inr, Option, Some, option_and_then, ◌%◌, Bool, true, false, Err}
+use Rattle.std.proofs.Common.{◌≡◌, ℕ, zero, suc, ◌+◌, ◌*◌, ◌<◌, List, [], ◌∷◌, ◌++◌, length, get_or, ap, ◌∙◌, sym, refl, arith, subst, inl, inr, Option, Some, option_and_then, ◌%◌, Bool, true, false, Vec, Global, Ok, Err}
 use Rattle.std.specs.List.{list_all}
 use Rattle.zarr_grids_boxes.specs.Boxes.{product}
 use Rattle.zarr_codecs_meaning.specs.Chains.{Chain}
@@ -16,12 +16,20 @@ use Rattle.zarr_codecs_arrays.specs.Outcomes.{IsValid}
 use Rattle.zarr_codecs_arrays.specs.declared.error.CodecError.{CodecError}
 use Rattle.zarr_codecs_arrays.specs.declared.error.CodecError.TheVariants as error
 use Rattle.zarr_codecs_traits.specs.Arrays.{coded}
-use Rattle.zarr_codecs_traits.specs.Outcomes.{Encodes}
+use Rattle.zarr_codecs_traits.specs.Outcomes.{Encodes, IsEncoded}
 use Rattle.zarr_codecs_traits.specs.Sources.{refused_after}
 use Rattle.zarr_sharding_compaction.proofs.Copying.{joined_more, pairs_more}
 use Rattle.zarr_sharding_codec.specs.Slices.{ArePiecesStored, IsPieceStored, StoresPiece}
 
--- a subchunk that isn't all fill is refused as its chain refuses it
+-- a subchunk that isn't all fill is stored as its chain encodes it
+pub piece_stored : (inner : Chain) (exact : Bool) (elements : Elements) (shape : List ℕ) (payload : Payload) (cells : List Cell) (slice : Vec ℕ Global) → is_fill elements.fill cells ≡ false → IsValid elements.type payload (product shape) cells
+    → Encodes (coded inner elements shape) exact payload (Ok slice) → StoresPiece inner exact elements (shape, cells) (Ok (Some slice))
+piece_stored inner exact elements shape payload cells slice some valid given =
+    let same : given.0 ≡ cells = some_same (sym given.1.valid.is.lists ∙ valid.is.lists) in
+    let h = subst (λ found. IsEncoded (coded inner elements shape) exact payload found slice.items) same given.1 in
+    record { some = some; made = h.made; encodes = h.encodes; stands = h.stands; sized = h.sized; gapless = h.gapless }
+
+-- and is refused as its chain refuses it
 pub piece_refused : (inner : Chain) (exact : Bool) (elements : Elements) (shape : List ℕ) (payload : Payload) (cells : List Cell) (e : CodecError) → fits inner elements.type shape ≡ true → is_fill elements.fill cells ≡ false
     → IsValid elements.type payload (product shape) cells → Encodes (coded inner elements shape) exact payload (Err e) → StoresPiece inner exact elements (shape, cells) (Err e)
 piece_refused inner exact elements shape payload cells error.Fit fit some valid given = cc

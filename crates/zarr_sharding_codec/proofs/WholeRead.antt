@@ -125,8 +125,8 @@ shard_lost inner elements shape subchunk value ps cuts many law h =
       n,
       below,
       shard_place inner elements shape subchunk value ps n cuts many below
-          ∙ (ap (λ j. place_decoded inner elements value (part_shape shape subchunk j) (get_or ps j absent_pair) (inside_of shape subchunk n)) same.0
-          ∙ (ap (place_decoded inner elements value edges pair) same.1 ∙ found.2)),
+          ∙ (ap (λ j. place_decoded (coded inner elements (part_shape shape subchunk j)) value (get_or ps j absent_pair) (inside_of shape subchunk n)) same.0
+          ∙ (ap (place_decoded (coded inner elements edges) value pair) same.1 ∙ found.2)),
     )
 
 -- ---- chains

@@ -21,9 +21,9 @@ use Rattle.zarr_sharding_places.specs.Groups.{no_place}
 use Rattle.zarr_sharding_places.specs.Locating.{asked_place, asked_places, inside_of, part_shape, subchunk_of}
 use Rattle.zarr_sharding_places.specs.declared.locating.AskedPlace.{AskedPlace}
 use Rattle.zarr_sharding_places.proofs.PartPlaces.{places_apart}
-use Rattle.zarr_sharding_state.specs.States.{slice_length}
+use Rattle.zarr_codecs_traits.specs.ReadBytes.{slice_length}
 use Rattle.zarr_sharding_codec.specs.BytesMet.{bytes_met}
-use Rattle.zarr_sharding_codec.specs.PartWriting.{AreChanged, IsGroupUpdated, AreSubchunk, PutsAll, UpdatesGroup, UpdatesSlices, insides, positions}
+use Rattle.zarr_sharding_codec.specs.PartWriting.{AreChanged, IsGroupUpdated, AreSubchunk, PutsAll, UpdatesGroup, UpdatesSlices, given_group, insides, positions}
 use Rattle.zarr_sharding_codec.proofs.NumberedParts.{part_count, part_some}
 use Rattle.zarr_sharding_codec.proofs.GivenSoFar.{given_refused, none_given}
 use Rattle.zarr_sharding_codec.proofs.GroupsRead.{AskedShard, IsAskable}
@@ -118,13 +118,13 @@ module _ (s : AskedShard) (k : ℕ) (can : IsAskable s) (whole : AreSubchunk s.s
   }
 
   -- no other slice is read
-  pub whole_given : (before after : ℕ) → after ≤ before + slice_length (get_or s.pairs k absent_pair) → after ≤ before + bytes_met s.shape s.subchunk s.numbers s.pairs
-  whole_given before after given =
+  pub whole_given : (total before after : ℕ) → after ≤ before + slice_length total (get_or s.pairs k absent_pair) → after ≤ before + bytes_met s.shape s.subchunk s.numbers s.pairs total
+  whole_given total before after given =
       let all = append-nil (asked_of_shard s) in
       let writing : IsWriting s (map (λ n. s.elements.fill) s.numbers) (asked_of_shard s) = record { can = can; many = filled s.elements.fill s.numbers; moved = IsPermutation-refl (asked_of_shard s); stable = λ j. refl } in
       let asked = front_asked s true (map (λ n. s.elements.fill) s.numbers) (asked_of_shard s) (asked_of_shard s) (asked_of_shard s) [] writing front in
-      given_refused s before before after (asked_of_shard s) [] can asked front.some (λ low. absurd (omega (arith, low))) (subst (λ (ps : List AskedPlace). IsNonDecreasingBy (λ (place : AskedPlace). place.subchunk) ps) (sym all) sorted)
-      (none_given s before (asked_of_shard s ++ [])) (subst (λ n. after ≤ before + slice_length (get_or s.pairs n absent_pair)) (sym whole_first) given) where
+      given_refused s total before before after (asked_of_shard s) [] can asked front.some (λ low. absurd (omega (arith, low))) (subst (λ (ps : List AskedPlace). IsNonDecreasingBy (λ (place : AskedPlace). place.subchunk) ps) (sym all) sorted)
+      (none_given s total before (asked_of_shard s ++ [])) (subst (λ n. after ≤ before + slice_length total (get_or s.pairs n absent_pair)) (sym whole_first) given) where
         filled : (fill : Cell) (ns : List ℕ) → length (map (λ n. fill) ns) ≡ length ns
         filled fill [] = refl
         filled fill (n ∷ ns) = ap suc (filled fill ns)
@@ -144,13 +144,13 @@ module _ (s : AskedShard) (k : ℕ) (can : IsAskable s) (whole : AreSubchunk s.s
         ∙ (ap (λ ns. put (range_with_len 0 (length cells)) (gather s.elements.fill cells ns) before) two
         ∙ (ap (λ cs. put (range_with_len 0 (length cells)) cs before) (gathered_from s.elements.fill cells [] 0 refl) ∙ put_from cells before [] 0 refl (omega (arith, same, count, many))))
 
-    pub whole_updated : (change : Change) → IsGroupUpdated (stored_as s exact) (part_shape s.shape s.subchunk k) k (asked_of_shard s) cells change → AreChanged (stored_as s exact) (put_as s cells) (change ∷ [])
+    pub whole_updated : (change : Change) → IsGroupUpdated (stored_as s exact) (given_group (part_shape s.shape s.subchunk k) k (asked_of_shard s) cells) change → AreChanged (stored_as s exact) (put_as s cells) (change ∷ [])
     whole_updated change is =
         let ps = asked_of_shard s in
         updated_all s exact cells ps [] (change ∷ []) writing
-        (updated_more s exact cells ps ps ps [] [] change writing front (nothing_updated s exact cells ps) (subst (λ n. IsGroupUpdated (stored_as s exact) (part_shape s.shape s.subchunk n) n ps cells change) (sym whole_first) is)) (omega arith)
+        (updated_more s exact cells ps ps ps [] [] change writing front (nothing_updated s exact cells ps) (subst (λ n. IsGroupUpdated (stored_as s exact) (given_group (part_shape s.shape s.subchunk n) n ps cells) change) (sym whole_first) is)) (omega arith)
 
-    pub whole_unwritten : (e : CodecError) → UpdatesGroup (stored_as s exact) (part_shape s.shape s.subchunk k) k (asked_of_shard s) cells (Err e) → UpdatesSlices (stored_as s exact) (put_as s cells) (Err e)
+    pub whole_unwritten : (e : CodecError) → UpdatesGroup (stored_as s exact) (given_group (part_shape s.shape s.subchunk k) k (asked_of_shard s) cells) (Err e) → UpdatesSlices (stored_as s exact) (put_as s cells) (Err e)
     whole_unwritten e why =
         let ps = asked_of_shard s in
-        group_unwritten s exact cells ps ps ps [] writing front e (subst (λ n. UpdatesGroup (stored_as s exact) (part_shape s.shape s.subchunk n) n ps cells (Err e)) (sym whole_first) why)
+        group_unwritten s exact cells ps ps ps [] writing front e (subst (λ n. UpdatesGroup (stored_as s exact) (given_group (part_shape s.shape s.subchunk n) n ps cells) (Err e)) (sym whole_first) why)

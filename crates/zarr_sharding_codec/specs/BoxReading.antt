@@ -36,14 +36,24 @@ pub record AreMet (shape subchunk numbers met : List ℕ) : Type 0 where
   pub rising : (i j : ℕ) → i < j → j < length met → get_or met i 0 < get_or met j 0
   pub all : (t : ℕ) → t < length numbers → HasNumber met (subchunk_of shape subchunk (get_or numbers t 0))
 
--- of the places with these numbers, those at some rising positions are the ones that lie in a subchunk, and there have these numbers
-pub record StandIn (shape subchunk numbers positions insides : List ℕ) (k : ℕ) : Type 0 where
+-- places of an array of this shape, which is cut into subchunks of that one, by their numbers
+pub record CutPlaces : Type 0 where
+  pub shape : List ℕ
+  pub subchunk : List ℕ
+  pub numbers : List ℕ
+
+-- the same, put together
+abbrev pub cut_places : List ℕ → List ℕ → List ℕ → CutPlaces
+cut_places shape subchunk numbers = record { shape = shape; subchunk = subchunk; numbers = numbers }
+
+-- of these places, those at some rising positions are the ones that lie in a subchunk, and there have these numbers
+pub record StandIn (asked : CutPlaces) (positions insides : List ℕ) (k : ℕ) : Type 0 where
   pub many : length insides ≡ length positions
   pub rising : (i j : ℕ) → i < j → j < length positions → get_or positions i 0 < get_or positions j 0
-  pub low : (i : ℕ) → i < length positions → get_or positions i 0 < length numbers
-  pub part : (i : ℕ) → i < length positions → subchunk_of shape subchunk (get_or numbers (get_or positions i 0) 0) ≡ k
-  pub place : (i : ℕ) → i < length positions → inside_of shape subchunk (get_or numbers (get_or positions i 0) 0) ≡ get_or insides i 0
-  pub all : (t : ℕ) → t < length numbers → subchunk_of shape subchunk (get_or numbers t 0) ≡ k → HasNumber positions t
+  pub low : (i : ℕ) → i < length positions → get_or positions i 0 < length asked.numbers
+  pub part : (i : ℕ) → i < length positions → subchunk_of asked.shape asked.subchunk (get_or asked.numbers (get_or positions i 0) 0) ≡ k
+  pub place : (i : ℕ) → i < length positions → inside_of asked.shape asked.subchunk (get_or asked.numbers (get_or positions i 0) 0) ≡ get_or insides i 0
+  pub all : (t : ℕ) → t < length asked.numbers → subchunk_of asked.shape asked.subchunk (get_or asked.numbers t 0) ≡ k → HasNumber positions t
 
 -- what of a box lies in the subchunk with this number: a box with places, as it stands there, and as it stands in the whole one
 pub record IsCutOut (shape subchunk : List ℕ) (region : Region) (k : ℕ) (cut : BoxCut) : Type 0 where
@@ -51,7 +61,7 @@ pub record IsCutOut (shape subchunk : List ℕ) (region : Region) (k : ℕ) (cut
   pub edges : cut.inside.shape.items ≡ part_shape shape subchunk k
   pub inside : shape_has cut.inside.shape.items (region_of cut.inside.region) ≡ true
   pub some : 0 < product (region_of cut.inside.region).shape
-  pub stand : StandIn shape subchunk (numbers_of shape region) (numbers_of region.shape (region_of cut.target)) (numbers_of cut.inside.shape.items (region_of cut.inside.region)) k
+  pub stand : StandIn (cut_places shape subchunk (numbers_of shape region)) (numbers_of region.shape (region_of cut.target)) (numbers_of cut.inside.shape.items (region_of cut.inside.region)) k
 
 -- places of a subchunk are those of what of a box lies there: in their order they stand in the subchunk, and in the box with these lengths, as it does
 pub record IsCutGroup (lengths : List ℕ) (cut : BoxCut) (group : List AskedPlace) : Type 0 where

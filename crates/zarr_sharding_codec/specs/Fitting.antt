@@ -1,9 +1,9 @@
 -- Which arrays a shard suits.
 use Rattle.std.specs.Prelude.{◌≡◌, ℕ, ◌-◌, ◌^◌, ◌<◌, min, List, ◌++◌, length, map, get_or, Option, None, Some, option_map, Bool, true, false, Result, Ok, Err}
-use Rattle.std.specs.List.{list_all}
+use Rattle.std.specs.List.{list_all, list_any}
 use Rattle.zarr_codecs_meaning.specs.Chains.{Chain, bytes, packbits, vlen, optional, after_array_codec, then_bytes, sharded}
 use Rattle.zarr_codecs_meaning.specs.Encoding.{index_size}
-use Rattle.zarr_codecs_meaning.specs.Fits.{bound_of, fits, representation_of, sum_of_bounds}
+use Rattle.zarr_codecs_meaning.specs.Fits.{bound_of, fits, representation_of, sum_of_bounds, tells_too_long}
 use Rattle.zarr_codecs_meaning.specs.Places.{Part, index_shape, parts_of}
 use Rattle.zarr_codecs_meaning.specs.Types.{DataType}
 use Rattle.zarr_codecs_arrays.specs.declared.error.CodecError.{CodecError}
@@ -63,16 +63,25 @@ pub record IsOneTooLong (inner : Chain) (type : DataType) (shapes : List (List �
   pub below : number < length shapes
   pub is : (d : List ℕ) → RepresentsArray inner type (get_or shapes number d) (Err error.Size)
 
+-- whether one of the codecs tells too long a size of an array of one of these shapes
+abbrev pub any_told_long : Chain → DataType → LastDimensions → Bool
+any_told_long inner type last = list_any (λ shape. tells_too_long inner type shape) (shapes_behind last)
+
+-- the sum of these bounds, where each is there, and no codec tells too long a size
+pub record AreBounded (inner : Chain) (type : DataType) (last : LastDimensions) (found : Option ℕ) : Type 0 where
+  pub sum : found ≡ option_map capped (bound_of_shapes inner type last)
+  pub short : any_told_long inner type last ≡ false
+
 -- the sum of these bounds, or why it isn't known: one of them is too long
 abbrev pub BoundsShapes : Chain → DataType → LastDimensions → Result (Option ℕ) CodecError → Type 0
-BoundsShapes inner type last (Ok found) = found ≡ option_map capped (bound_of_shapes inner type last)
+BoundsShapes inner type last (Ok found) = AreBounded inner type last found
 BoundsShapes inner type last (Err error.Size) = IsOneTooLong inner type (shapes_behind last)
 BoundsShapes inner type last (Err error.Memory) = Unit {0}
 BoundsShapes inner type last (Err e) = ⊥
 
 -- the bound of what a chain makes of an array alone, or why it isn't known
 abbrev pub BoundsAlone : Chain → DataType → List ℕ → Result (Option ℕ) CodecError → Type 0
-BoundsAlone chain type shape (Ok found) = found ≡ option_map capped (bound_of (representation_of chain type shape))
+BoundsAlone chain type shape (Ok found) = (found ≡ option_map capped (bound_of (representation_of chain type shape))) × (tells_too_long chain type shape ≡ false)
 BoundsAlone chain type shape (Err error.Size) = RepresentsArray chain type shape (Err error.Size)
 BoundsAlone chain type shape (Err error.Memory) = Unit {0}
 BoundsAlone chain type shape (Err e) = ⊥

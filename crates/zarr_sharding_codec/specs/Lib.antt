@@ -9,3 +9,4 @@ pub mod BytesMet
 pub mod Configured
 pub mod BoxReading
 pub mod Pieces
+pub mod Updating

@@ -15,9 +15,9 @@ use Rattle.zarr_sharding_codec.specs.Slices.{IsPieceStored}
 use Rattle.zarr_sharding_places.specs.Locating.{inside_of, part_shape, subchunk_of}
 use Rattle.zarr_sharding_places.specs.Pieces.{piece_decoded}
 use Rattle.zarr_sharding_places.specs.declared.locating.AskedPlace.{AskedPlace}
-use Rattle.zarr_sharding_state.specs.Held.{are_absent, shard_length}
-use Rattle.zarr_sharding_state.specs.Views.{change_of, changes_of}
-use Rattle.zarr_sharding_state.specs.declared.writing.SliceChange.{SliceChange}
+use Rattle.zarr_sharding_index.specs.Held.{are_absent, shard_length}
+use Rattle.zarr_sharding_index.specs.SliceChanges.{change_of, changes_of}
+use Rattle.zarr_sharding_index.specs.declared.slice_changes.SliceChange.{SliceChange}
 
 -- ---- new cells, subchunk by subchunk
 
@@ -167,26 +167,41 @@ pub record AreSubchunk (shape subchunk numbers : List ℕ) (k : ℕ) : Type 0 wh
   pub below : k < length (parts_of shape subchunk)
   pub is : (d : Part) → (get_or (parts_of shape subchunk) k d).places ≡ numbers
 
--- what is stored of the cells of a subchunk of this shape after the new ones were put
-pub record IsGroupUpdated (stored : Stored) (shape : List ℕ) (k : ℕ) (group : List AskedPlace) (given : List Cell) (change : Change) : Type 0 where
-  pub number : change.0 ≡ k
+-- places of the subchunk with this number, which has this shape, and cells that are given, of which those for these places are put there
+pub record GroupGiven : Type 0 where
+  pub shape : List ℕ
+  pub number : ℕ
+  pub group : List AskedPlace
+  pub given : List Cell
+
+-- the same, put together
+abbrev pub given_group : List ℕ → ℕ → List AskedPlace → List Cell → GroupGiven
+given_group shape number group given = record { shape = shape; number = number; group = group; given = given }
+
+-- the cells of a subchunk after they were put over these
+abbrev pub cells_after_group : Stored → GroupGiven → List Cell → List Cell
+cells_after_group stored new before = group_put stored.elements.fill new.group new.given before
+
+-- what is stored of the cells of a subchunk after the new ones were put
+pub record IsGroupUpdated (stored : Stored) (new : GroupGiven) (change : Change) : Type 0 where
+  pub number : change.0 ≡ new.number
   pub before : List Cell
-  pub held : cells_held stored shape k ≡ Some before
-  pub slice : IsPieceStored stored.inner stored.exact stored.elements (shape, group_put stored.elements.fill group given before) change.1
+  pub held : cells_held stored new.shape new.number ≡ Some before
+  pub slice : IsPieceStored stored.inner stored.exact stored.elements (new.shape, cells_after_group stored new before) change.1
 
 -- a subchunk that isn't all fill afterwards is refused by its chain
-pub record IsGroupRefused (refuses : Chain → Elements → List ℕ → List Cell → Type 0) (stored : Stored) (shape : List ℕ) (k : ℕ) (group : List AskedPlace) (given : List Cell) : Type 0 where
+pub record IsGroupRefused (refuses : Chain → Elements → List ℕ → List Cell → Type 0) (stored : Stored) (new : GroupGiven) : Type 0 where
   pub before : List Cell
-  pub held : cells_held stored shape k ≡ Some before
-  pub some : is_fill stored.elements.fill (group_put stored.elements.fill group given before) ≡ false
-  pub is : refuses stored.inner stored.elements shape (group_put stored.elements.fill group given before)
+  pub held : cells_held stored new.shape new.number ≡ Some before
+  pub some : is_fill stored.elements.fill (cells_after_group stored new before) ≡ false
+  pub is : refuses stored.inner stored.elements new.shape (cells_after_group stored new before)
 
 -- the change of a subchunk, or why there is none
-abbrev pub UpdatesGroup : Stored → List ℕ → ℕ → List AskedPlace → List Cell → Result SliceChange CodecError → Type 0
-UpdatesGroup stored shape k group given (Ok change) = IsGroupUpdated stored shape k group given (change_of change)
-UpdatesGroup stored shape k group given (Err error.Damage) = cells_held stored shape k ≡ None
-UpdatesGroup stored shape k group given (Err error.Codec) = IsGroupRefused CodecRefuses stored shape k group given
-UpdatesGroup stored shape k group given (Err error.Size) = IsTooLarge stored.elements.type (product shape) ⊎ IsGroupRefused PassesIndex stored shape k group given
-UpdatesGroup stored shape k group given (Err error.Source) = Unit {0}
-UpdatesGroup stored shape k group given (Err error.Memory) = Unit {0}
-UpdatesGroup stored shape k group given (Err e) = ⊥
+abbrev pub UpdatesGroup : Stored → GroupGiven → Result SliceChange CodecError → Type 0
+UpdatesGroup stored new (Ok change) = IsGroupUpdated stored new (change_of change)
+UpdatesGroup stored new (Err error.Damage) = cells_held stored new.shape new.number ≡ None
+UpdatesGroup stored new (Err error.Codec) = IsGroupRefused CodecRefuses stored new
+UpdatesGroup stored new (Err error.Size) = IsTooLarge stored.elements.type (product new.shape) ⊎ IsGroupRefused PassesIndex stored new
+UpdatesGroup stored new (Err error.Source) = Unit {0}
+UpdatesGroup stored new (Err error.Memory) = Unit {0}
+UpdatesGroup stored new (Err e) = ⊥

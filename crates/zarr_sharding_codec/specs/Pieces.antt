@@ -26,12 +26,12 @@ use Rattle.zarr_codecs_traits.specs.declared.pieces.PiecePlaces.{PiecePlaces}
 use Rattle.zarr_codecs_traits.specs.declared.pieces.PiecePlaces.TheVariants as places
 use Rattle.zarr_codecs_traits.specs.declared.pieces.PieceSlice.{PieceSlice}
 use Rattle.zarr_codecs_traits.specs.declared.pieces.ValuePieces.{ValuePieces}
-use Rattle.zarr_sharding_index.specs.Held.{FetchesSlice, IsIndexHeld}
+use Rattle.zarr_sharding_index.specs.HeldIndex.{FetchesSlice, IsIndexHeld}
 use Rattle.zarr_sharding_index.specs.Listed.{are_present, full_list}
 use Rattle.zarr_sharding_index.specs.Views.{pair_of}
 use Rattle.zarr_sharding_index.specs.declared.pair.PresentPair.{PresentPair}
 use Rattle.zarr_sharding_places.specs.Locating.{inside_of, part_shape, subchunk_of}
-use Rattle.zarr_sharding_codec.specs.Reading.{AreCells, DecodesPieces, Lists, ListsRead, shard_cells, slice_cells}
+use Rattle.zarr_sharding_codec.specs.Reading.{AreCells, DecodesPieces, Lists, ListsRead, shard_cells, slice_cells, subchunks_of}
 use Rattle.zarr_sharding_codec.specs.Slices.{ArePiecesStored, StoresPiece}
 
 -- ---- the shard of an array
@@ -151,7 +151,7 @@ pub record AreDecoded (array : Coded) (value : List ℕ) (slices : List PieceSli
 abbrev pub PutsSlices : Coded → List PieceSlice → List ArrayBytes → Result ArrayBytes CodecError → Type 0
 PutsSlices array slices found result =
     (value : List ℕ) (pairs : List Pair) → fits array.chain array.elements.type array.shape ≡ true → length pairs ≡ length (parts_of array.shape (subchunk_in array.chain)) → AreSliced pairs slices → AreDecoded array value slices found
-    → DecodesPieces (inner_chain array.chain) array.elements array.shape (subchunk_in array.chain) value pairs result
+    → DecodesPieces (subchunks_of (inner_chain array.chain) array.elements array.shape (subchunk_in array.chain)) value pairs result
 
 -- ---- the pieces of an array
 
@@ -263,7 +263,7 @@ IsCovered part slices t = (is_absent (get_or part.pairs (subchunk_at part t) abs
 
 -- what the cells at the places are
 abbrev pub cells_asked : AskedPart → Option (List Cell)
-cells_asked part = shard_cells (inner_chain part.array.chain) part.array.elements part.array.shape (subchunk_in part.array.chain) part.value part.pairs (asked_numbers part)
+cells_asked part = shard_cells (subchunks_of (inner_chain part.array.chain) part.array.elements part.array.shape (subchunk_in part.array.chain)) part.value part.pairs (asked_numbers part)
 
 -- slices that were read for the places: all that are present, or those before one that was refused
 pub record ArePartRead (part : AskedPart) (pieces : ValuePieces) : Type 0 where

@@ -1,6 +1,8 @@
 -- What the codec of `src/` stands for.
-use Rattle.std.specs.Prelude.{◌≡◌, ℕ, List, Bool, ◌&&◌}
+use Rattle.std.specs.Prelude.{◌≡◌, ℕ, List, Bool, IsTrue, true, ◌&&◌}
+use Rattle.std.proofs.lemmas.Bool.{false≢true}
 use Rattle.zarr_codecs_meaning.specs.Chains.{Chain, Location, sharded}
+use Rattle.zarr_codecs_meaning.specs.Fits.{is_plain}
 use Rattle.zarr_codecs_options.specs.declared.subchunk_write_order.SubchunkWriteOrder.{SubchunkWriteOrder}
 use Rattle.zarr_sharding_inner.specs.Orders.{is_row_major}
 use Rattle.zarr_sharding_index.specs.Views.{location_of}
@@ -17,6 +19,11 @@ order_of codec = codec.subchunk_write_order
 -- whether what is made of elements depends on these alone: subchunks are written row-major, and the codecs of subchunks and index are such
 abbrev pub makes_a_function : {I X : Type 0} → (I → Bool) → (X → Bool) → ShardingCodec I X → Bool
 makes_a_function inner index codec = is_row_major (order_of codec) && (inner codec.inner_codecs && index codec.index_codecs)
+
+-- no shard is made without one
+pub shard_plain : {I X : Type 0} (inner : I → Chain) (index : X → Chain) (inner_function : I → Bool) (index_function : X → Bool) (codec : ShardingCodec I X)
+    → is_plain (shard_chain inner index codec) ≡ true → IsTrue (makes_a_function inner_function index_function codec)
+shard_plain inner index inner_function index_function codec is = absurd (false≢true is)
 
 -- the codecs of the subchunks
 abbrev pub inner_of : {I X : Type 0} → ShardingCodec I X → I

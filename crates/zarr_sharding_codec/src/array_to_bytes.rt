@@ -24,7 +24,7 @@ impl<I: ArrayToBytesCodecTraits, X: IndexCodec> ArrayToBytesCodecTraits for Shar
     ghost use Rattle.std.specs.Prelude.{◌≡◌, IfOk};
     ghost use Rattle.zarr_codecs_traits.specs.Arrays.{coded};
     ghost use Rattle.zarr_sharding_codec.specs.Pieces.{DecodesPieceOf, IsCut, IsCutArray, IsCutPart, StoresPieceOf};
-    ghost use Rattle.zarr_sharding_codec.specs.Views.{inner_of, makes_a_function, order_of, shard_chain, shard_copied};
+    ghost use Rattle.zarr_sharding_codec.specs.Views.{inner_of, makes_a_function, order_of, shard_chain, shard_copied, shard_plain};
 
     ghost meaning = { shard_chain I.meaning X.meaning };
 
@@ -165,7 +165,7 @@ impl<I: ArrayToBytesCodecTraits, X: IndexCodec> ArrayToBytesCodecTraits for Shar
         bytes: ArrayBytes,
         part: ArrayPart<'_>,
     ) -> Result<(), CodecError> {
-        let size = match self.test_part(alloc, &bytes, part) {
+        let size = match self.index_size_for(alloc, &bytes, part) {
             Ok(size) => size,
             Err(error) => return Err(error),
         };
@@ -378,4 +378,6 @@ impl<I: ArrayToBytesCodecTraits, X: IndexCodec> ArrayToBytesCodecTraits for Shar
     }
 
     ghost lawful = { λ codec. (I.lawful codec.inner_codecs, X.lawful codec.index_codecs) };
+
+    ghost plain = { shard_plain I.meaning X.meaning I.is_function X.is_function };
 }

@@ -13,6 +13,7 @@ impl<I: ArrayToBytesCodecTraits, X: ArrayToBytesCodecTraits> ShardingCodec<I, X>
     ghost use Rattle.zarr_codecs_meaning.specs.Encoding.{base_of, index_size, joined_slices, pairs_from};
     ghost use Rattle.zarr_grids_boxes.specs.Boxes.{product};
     ghost use Rattle.zarr_sharding_codec.specs.Assembled.{Assembles};
+    ghost use Rattle.zarr_sharding_index.specs.Held.{index_coding};
     ghost use Rattle.zarr_sharding_codec.specs.Views.{index_of, place_of_index};
     ghost use Rattle.zarr_sharding_index.specs.Stored.{index_fits};
     ghost use Rattle.zarr_sharding_index.specs.Views.{pairs_of};
@@ -30,8 +31,9 @@ impl<I: ArrayToBytesCodecTraits, X: ArrayToBytesCodecTraits> ShardingCodec<I, X>
         ensures { (stored : List (Option (List ℕ))) → data.items ≡ joined_slices stored
             → pairs_of index ≡ pairs_from (base_of (place_of_index self.now)
             (index_size (X.meaning (index_of self.now)) pairs_shape.now)) stored
-            → Assembles (X.meaning (index_of self.now)) (X.is_function (index_of self.now))
-            (place_of_index self.now) pairs_shape.now stored result }
+            → Assembles (index_coding (X.meaning (index_of self.now))
+            (X.is_function (index_of self.now)) (place_of_index self.now) pairs_shape.now)
+            stored result }
     {
         match write_index(alloc, &self.index_codecs, index, pairs_shape) {
             Ok(stored) => Ok(join(self.index_location, stored, data)?),

@@ -4,16 +4,17 @@ ghost use Rattle.zarr_codecs_meaning.specs.Places.{box_of};
 ghost use Rattle.zarr_grids_boxes.specs.Boxes.{each2};
 
 use crate::codec::ShardingCodec;
-use crate::partial::{NumberedPlaces, OpenedShard, fill_elements};
+use crate::decoding::fill_piece;
+use crate::partial::{NumberedPlaces, OpenedShard};
 use crate::subchunks::{CutArray, subchunk_number, subchunk_region};
 use crate::updating::NumberedSubchunk;
 use std::alloc::{AllocError, Global};
 use zarr_codecs_arrays::{ArrayBytes, CodecError};
-use zarr_codecs_regions::{is_inside, numbers_asked};
+use zarr_codecs_regions::{count_elements, is_inside, numbers_asked};
 use zarr_codecs_traits::{ArrayToBytesCodecTraits, BytesPartialDecoderTraits, Indexer, WholeArray};
 use zarr_grids_boxes::ArraySubset;
 use zarr_grids_boxes::walk::count_places;
-use zarr_sharding_index::held::fetch_slice;
+use zarr_sharding_index::fetched_index::fetch_slice;
 use zarr_sharding_index::pair::is_absent;
 use zarr_sharding_index::shapes::grid_of;
 use zarr_sharding_places::BoxedElements;
@@ -54,15 +55,16 @@ impl<I: ArrayToBytesCodecTraits, X: ArrayToBytesCodecTraits> ShardingCodec<I, X>
     ghost use Rattle.zarr_codecs_meaning.specs.Fits.{can_cut, fits};
     ghost use Rattle.zarr_codecs_meaning.specs.Places.{parts_of, place_numbers};
     ghost use Rattle.zarr_codecs_traits.specs.Indexers.{are_inside, asked_of, shape_has, numbers_asked, numbers_of};
+    ghost use Rattle.zarr_codecs_traits.specs.ReadBytes.{slice_length};
     ghost use Rattle.zarr_codecs_traits.specs.Sources.{refused_after};
+    ghost use Rattle.zarr_codecs_traits.specs.Arrays.{coded};
     ghost use Rattle.zarr_grids_boxes.specs.Boxes.{product};
     ghost use Rattle.zarr_grids_boxes.specs.Subsets.{region_of};
     ghost use Rattle.zarr_sharding_codec.specs.BoxReading.{AreMet, IsBoxInside, IsCutOut};
     ghost use Rattle.zarr_sharding_codec.specs.BytesMet.{bytes_met};
-    ghost use Rattle.zarr_sharding_codec.specs.Reading.{IsTotalOf, ListsRead, places_decoded, shard_cells};
+    ghost use Rattle.zarr_sharding_codec.specs.Reading.{IsTotalOf, ListsRead, places_decoded, shard_cells, subchunks_of};
     ghost use Rattle.zarr_sharding_codec.specs.Views.{inner_of, shard_chain, subchunk_of};
     ghost use Rattle.zarr_sharding_index.specs.Present.{all_pairs};
-    ghost use Rattle.zarr_sharding_state.specs.States.{slice_length};
 
     /// The elements at the places that are asked for, which are the array's, of the shard that a
     /// source holds: of it each slice that they lie in is fetched, once, and nothing else. `Damage`
@@ -84,16 +86,16 @@ impl<I: ArrayToBytesCodecTraits, X: ArrayToBytesCodecTraits> ShardingCodec<I, X>
         ensures part { IsTrue (D.is_honest source.old) → IsTotalOf (D.contents source.old)
             (all_pairs shard.entry.pairs.now) shard.entry.total
             → ListsRead (elements_of shard.entry.elements.now) asked.entry.shape.now
-            (shard_cells (I.meaning (inner_of self.now)) (elements_of shard.entry.elements.now)
-            asked.entry.shape.now (subchunk_of self.now) (unwrap_or (D.contents source.old) [])
-            (all_pairs shard.entry.pairs.now)
+            (shard_cells (subchunks_of (I.meaning (inner_of self.now))
+            (elements_of shard.entry.elements.now) asked.entry.shape.now (subchunk_of self.now))
+            (unwrap_or (D.contents source.old) []) (all_pairs shard.entry.pairs.now)
             (numbers_asked asked.entry.shape.now (asked_of asked.entry.indexer))) result }
         ensures refused { D.refused_calls source.new ≡
             refused_after (D.refused_calls source.old) result }
         ensures given { IsTrue (D.is_honest source.old) → D.given_bytes source.new
             ≤ D.given_bytes source.old + bytes_met asked.entry.shape.now (subchunk_of self.now)
             (numbers_asked asked.entry.shape.now (asked_of asked.entry.indexer))
-            (all_pairs shard.entry.pairs.now) }
+            (all_pairs shard.entry.pairs.now) shard.entry.total }
         ensures follows { D.follows source.old source.new }
     {
         let shape = asked.shape;
@@ -124,16 +126,16 @@ impl<I: ArrayToBytesCodecTraits, X: ArrayToBytesCodecTraits> ShardingCodec<I, X>
         ensures part { IsTrue (D.is_honest source.old) → IsTotalOf (D.contents source.old)
             (all_pairs shard.entry.pairs.now) shard.entry.total
             → ListsRead (elements_of shard.entry.elements.now) asked.entry.shape.now
-            (shard_cells (I.meaning (inner_of self.now)) (elements_of shard.entry.elements.now)
-            asked.entry.shape.now (subchunk_of self.now) (unwrap_or (D.contents source.old) [])
-            (all_pairs shard.entry.pairs.now)
+            (shard_cells (subchunks_of (I.meaning (inner_of self.now))
+            (elements_of shard.entry.elements.now) asked.entry.shape.now (subchunk_of self.now))
+            (unwrap_or (D.contents source.old) []) (all_pairs shard.entry.pairs.now)
             (numbers_of asked.entry.shape.now (region_of asked.entry.region.now))) result }
         ensures refused { D.refused_calls source.new ≡
             refused_after (D.refused_calls source.old) result }
         ensures given { IsTrue (D.is_honest source.old) → D.given_bytes source.new
             ≤ D.given_bytes source.old + bytes_met asked.entry.shape.now (subchunk_of self.now)
             (numbers_of asked.entry.shape.now (region_of asked.entry.region.now))
-            (all_pairs shard.entry.pairs.now) }
+            (all_pairs shard.entry.pairs.now) shard.entry.total }
         ensures follows { D.follows source.old source.new }
     {
         if let Some(number) = self.subchunk_of_box(asked.shape, asked.region) {
@@ -165,24 +167,24 @@ impl<I: ArrayToBytesCodecTraits, X: ArrayToBytesCodecTraits> ShardingCodec<I, X>
         ensures part { IsTrue (D.is_honest source.old) → IsTotalOf (D.contents source.old)
             (all_pairs shard.entry.pairs.now) shard.entry.total
             → ListsRead (elements_of shard.entry.elements.now) asked.entry.shape.now
-            (shard_cells (I.meaning (inner_of self.now)) (elements_of shard.entry.elements.now)
-            asked.entry.shape.now (subchunk_of self.now) (unwrap_or (D.contents source.old) [])
-            (all_pairs shard.entry.pairs.now)
+            (shard_cells (subchunks_of (I.meaning (inner_of self.now))
+            (elements_of shard.entry.elements.now) asked.entry.shape.now (subchunk_of self.now))
+            (unwrap_or (D.contents source.old) []) (all_pairs shard.entry.pairs.now)
             (numbers_of asked.entry.shape.now (region_of asked.entry.region.now))) result }
         ensures refused { D.refused_calls source.new ≡
             refused_after (D.refused_calls source.old) result }
         ensures given { IsTrue (D.is_honest source.old) → D.given_bytes source.new
             ≤ D.given_bytes source.old + bytes_met asked.entry.shape.now (subchunk_of self.now)
             (numbers_of asked.entry.shape.now (region_of asked.entry.region.now))
-            (all_pairs shard.entry.pairs.now) }
+            (all_pairs shard.entry.pairs.now) shard.entry.total }
         ensures follows { D.follows source.old source.new }
     {
         let lengths = asked.region.shape();
+        let Some(count) = count_elements(lengths, shard.elements) else {
+            return Err(CodecError::Size);
+        };
         let found = self.subchunks_met(alloc, asked.shape, asked.region)?;
         let met = found.as_slice();
-        let Some(count) = count_places(lengths) else {
-            return Err(CodecError::Memory);
-        };
         let array = WholeArray {
             elements: shard.elements,
             shape: lengths,
@@ -216,24 +218,22 @@ impl<I: ArrayToBytesCodecTraits, X: ArrayToBytesCodecTraits> ShardingCodec<I, X>
         ensures part { IsTrue (D.is_honest source.old) → IsTotalOf (D.contents source.old)
             (all_pairs shard.entry.pairs.now) shard.entry.total
             → ListsRead (elements_of shard.entry.elements.now) found.now.shape.items
-            (places_decoded (I.meaning (inner_of self.now)) (elements_of shard.entry.elements.now)
-            (unwrap_or (D.contents source.old) []) found.now.shape.items
+            (places_decoded (coded (I.meaning (inner_of self.now))
+            (elements_of shard.entry.elements.now) found.now.shape.items)
+            (unwrap_or (D.contents source.old) [])
             (get_or (all_pairs shard.entry.pairs.now) found.now.number absent_pair)
             (numbers_of found.now.shape.items (region_of found.now.region))) result }
         ensures refused { D.refused_calls source.new ≡
             refused_after (D.refused_calls source.old) result }
         ensures given { IsTrue (D.is_honest source.old) → D.given_bytes source.new
-            ≤ D.given_bytes source.old
-            + slice_length (get_or (all_pairs shard.entry.pairs.now) found.now.number absent_pair) }
+            ≤ D.given_bytes source.old + slice_length shard.entry.total
+            (get_or (all_pairs shard.entry.pairs.now) found.now.number absent_pair) }
         ensures follows { D.follows source.old source.new }
     {
         let pair = shard.pairs.get(found.number as usize);
         let region = &found.region;
         if is_absent(pair) {
-            let Some(count) = count_places(region.shape()) else {
-                return Err(CodecError::Memory);
-            };
-            return Ok(fill_elements(alloc, shard.elements, count as usize)?);
+            return fill_piece(alloc, shard.elements, region.shape());
         }
         match fetch_slice(alloc, source, shard.total, pair) {
             Ok(slice) => {
@@ -261,14 +261,15 @@ impl<I: ArrayToBytesCodecTraits, X: ArrayToBytesCodecTraits> ShardingCodec<I, X>
         ensures part { IsTrue (D.is_honest source.old) → IsTotalOf (D.contents source.old)
             (all_pairs shard.entry.pairs.now) shard.entry.total
             → ListsRead (elements_of shard.entry.elements.now) found.entry.shape.now
-            (places_decoded (I.meaning (inner_of self.now)) (elements_of shard.entry.elements.now)
-            (unwrap_or (D.contents source.old) []) found.entry.shape.now
+            (places_decoded (coded (I.meaning (inner_of self.now))
+            (elements_of shard.entry.elements.now) found.entry.shape.now)
+            (unwrap_or (D.contents source.old) [])
             (get_or (all_pairs shard.entry.pairs.now) found.entry.number absent_pair)
             (place_numbers found.entry.shape.now)) result }
         ensures refused { D.refused_calls source.new ≡
             refused_after (D.refused_calls source.old) result }
         ensures given { IsTrue (D.is_honest source.old) → D.given_bytes source.new
-            ≤ D.given_bytes source.old + slice_length
+            ≤ D.given_bytes source.old + slice_length shard.entry.total
             (get_or (all_pairs shard.entry.pairs.now) found.entry.number absent_pair) }
         ensures follows { D.follows source.old source.new }
     {
@@ -276,10 +277,7 @@ impl<I: ArrayToBytesCodecTraits, X: ArrayToBytesCodecTraits> ShardingCodec<I, X>
         let elements = shard.elements;
         let pair = shard.pairs.get(found.number);
         if is_absent(pair) {
-            let Some(count) = count_places(shape) else {
-                return Err(CodecError::Memory);
-            };
-            return Ok(fill_elements(alloc, elements, count as usize)?);
+            return fill_piece(alloc, elements, shape);
         }
         match fetch_slice(alloc, source, shard.total, pair) {
             Ok(slice) => self.decode_slice(alloc, slice, WholeArray { elements, shape }),

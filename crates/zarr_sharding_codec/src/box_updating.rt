@@ -20,7 +20,7 @@ use zarr_codecs_arrays::{ArrayBytes, CodecError, Elements};
 use zarr_codecs_regions::update_array_bytes;
 use zarr_codecs_traits::{ArrayToBytesCodecTraits, BytesPartialDecoderTraits, Indexer, WholeArray};
 use zarr_grids_boxes::ArraySubset;
-use zarr_sharding_state::SliceChange;
+use zarr_sharding_index::SliceChange;
 
 /// New elements for the places of a box in an array of this shape, row-major.
 #[derive(Clone, Copy)]
@@ -32,33 +32,28 @@ pub(crate) struct BoxElements<'a> {
 
 /// New elements for the places of a box with these lengths, and what of it lies in one subchunk.
 #[derive(Clone, Copy)]
-struct CutElements<'a> {
+pub(crate) struct CutElements<'a> {
     lengths: &'a [u64],
     cut: &'a BoxCut,
     bytes: &'a ArrayBytes,
 }
 
 impl<I: ArrayToBytesCodecTraits, X: ArrayToBytesCodecTraits> ShardingCodec<I, X> {
-    ghost use Rattle.std.specs.Prelude.{◌≡◌, ◌<◌, ◌≤◌, ◌+◌, ◌^◌, List, true, length, get_or, IsTrue, IfOk};
+    ghost use Rattle.std.specs.Prelude.{◌≡◌, ◌<◌, ◌≤◌, ◌+◌, true, length, get_or, IsTrue, IfOk};
     ghost use Rattle.std.specs.List.{list_all};
-    ghost use Rattle.zarr_codecs_arrays.specs.Outcomes.{IsValid};
-    ghost use Rattle.zarr_codecs_arrays.specs.Views.{elements_of, payload_of};
+    ghost use Rattle.zarr_codecs_arrays.specs.Views.{elements_of};
     ghost use Rattle.zarr_codecs_meaning.specs.Encoding.{absent_pair};
     ghost use Rattle.zarr_codecs_meaning.specs.Fits.{fits};
     ghost use Rattle.zarr_codecs_meaning.specs.Places.{parts_of};
-    ghost use Rattle.zarr_codecs_meaning.specs.Types.{Cell};
-    ghost use Rattle.zarr_codecs_traits.specs.Indexers.{numbers_of, shape_has};
+    ghost use Rattle.zarr_codecs_traits.specs.Indexers.{shape_has};
+    ghost use Rattle.zarr_codecs_traits.specs.ReadBytes.{slice_length};
     ghost use Rattle.zarr_codecs_traits.specs.Sources.{refused_after};
-    ghost use Rattle.zarr_grids_boxes.specs.Boxes.{product};
     ghost use Rattle.zarr_grids_boxes.specs.Subsets.{region_of};
-    ghost use Rattle.zarr_sharding_codec.specs.BoxReading.{IsCutGroup};
     ghost use Rattle.zarr_sharding_codec.specs.BytesMet.{bytes_met};
-    ghost use Rattle.zarr_sharding_codec.specs.PartWriting.{IsOf, UpdatesGroup, UpdatesSlices, put_at, stored_in};
+    ghost use Rattle.zarr_sharding_codec.specs.Updating.{IsKnownOf, PutsBox, PutsCut, numbers_boxed, stored_of, total_of};
     ghost use Rattle.zarr_sharding_codec.specs.Views.{inner_of, shard_chain, subchunk_of};
-    ghost use Rattle.zarr_sharding_index.specs.Views.{location_of};
-    ghost use Rattle.zarr_sharding_places.specs.declared.locating.AskedPlace.{AskedPlace};
-    ghost use Rattle.zarr_sharding_state.specs.States.{end_of, pairs_in, slice_length};
-    ghost use Rattle.zarr_sharding_state.specs.Views.{is_below};
+    ghost use Rattle.zarr_sharding_index.specs.Known.{pairs_in};
+    ghost use Rattle.zarr_sharding_index.specs.SliceChanges.{is_below};
 
     /// The new slices of the subchunks that the places of a box lie in, as `update_slices` makes
     /// them.
@@ -74,26 +69,17 @@ impl<I: ArrayToBytesCodecTraits, X: ArrayToBytesCodecTraits> ShardingCodec<I, X>
         requires many { length (pairs_in shard.known.now)
             ≡ length (parts_of given.shape.now (subchunk_of self.now)) }
         requires inside { shape_has given.shape.now (region_of given.region.now) ≡ true }
-        requires low { shard.layout.size < 2 ^ 63 }
-        ensures changes { IsTrue (D.is_honest source.old) → IsOf
-            (location_of shard.entry.layout.location) shard.entry.layout.size
-            (D.contents source.old) (pairs_in shard.entry.known.now) (end_of shard.entry.known.now)
-            → (cells : List Cell) → IsValid (elements_of shard.entry.elements.now).type
-            (payload_of given.entry.bytes.now) (length
-            (numbers_of given.entry.shape.now (region_of given.entry.region.now))) cells
-            → UpdatesSlices (stored_in (I.meaning (inner_of self.now))
-            (I.is_function (inner_of self.now)) (elements_of shard.entry.elements.now)
-            (D.contents source.old) (pairs_in shard.entry.known.now))
-            (put_at given.entry.shape.now (subchunk_of self.now)
-            (numbers_of given.entry.shape.now (region_of given.entry.region.now)) cells) result }
+        ensures changes { IsTrue (D.is_honest source.old)
+            → IsKnownOf shard.entry (D.contents source.old)
+            → PutsBox (stored_of I.ArrayToBytesCodecTraits self.now shard.entry
+            (D.contents source.old)) (subchunk_of self.now) given.entry result }
         ensures below { IfOk result (λ changes. list_all
             (is_below (length (pairs_in shard.entry.known.now))) changes.items ≡ true) }
         ensures refused { D.refused_calls source.new ≡
             refused_after (D.refused_calls source.old) result }
         ensures given { IsTrue (D.is_honest source.old) → D.given_bytes source.new
             ≤ D.given_bytes source.old + bytes_met given.entry.shape.now (subchunk_of self.now)
-            (numbers_of given.entry.shape.now (region_of given.entry.region.now))
-            (pairs_in shard.entry.known.now) }
+            (numbers_boxed given.entry) (pairs_in shard.entry.known.now) (total_of shard.entry) }
         ensures follows { D.follows source.old source.new }
     {
         let lengths = given.region.shape();
@@ -128,25 +114,17 @@ impl<I: ArrayToBytesCodecTraits, X: ArrayToBytesCodecTraits> ShardingCodec<I, X>
         requires fit { fits (I.meaning (inner_of self.now)) (elements_of shard.elements.now).type
             given.cut.now.inside.shape.items ≡ true }
         requires pair { given.cut.now.inside.number < length (pairs_in shard.known.now) }
-        requires low { shard.layout.size < 2 ^ 63 }
-        ensures change { IsTrue (D.is_honest source.old) → IsOf
-            (location_of shard.entry.layout.location) shard.entry.layout.size
-            (D.contents source.old) (pairs_in shard.entry.known.now) (end_of shard.entry.known.now)
-            → (cells : List Cell) (group : List AskedPlace)
-            → IsValid (elements_of shard.entry.elements.now).type
-            (payload_of given.entry.bytes.now) (product given.entry.lengths.now) cells
-            → IsCutGroup given.entry.lengths.now given.entry.cut.now group
-            → UpdatesGroup (stored_in (I.meaning (inner_of self.now))
-            (I.is_function (inner_of self.now)) (elements_of shard.entry.elements.now)
-            (D.contents source.old) (pairs_in shard.entry.known.now))
-            given.entry.cut.now.inside.shape.items given.entry.cut.now.inside.number group cells
-            result }
+        ensures change { IsTrue (D.is_honest source.old)
+            → IsKnownOf shard.entry (D.contents source.old)
+            → PutsCut (stored_of I.ArrayToBytesCodecTraits self.now shard.entry
+            (D.contents source.old)) given.entry result }
         ensures number { IfOk result (λ change. change.number ≡ given.entry.cut.now.inside.number) }
         ensures refused { D.refused_calls source.new ≡
             refused_after (D.refused_calls source.old) result }
         ensures given { IsTrue (D.is_honest source.old) → D.given_bytes source.new
-            ≤ D.given_bytes source.old + slice_length
-            (get_or (pairs_in shard.entry.known.now) given.entry.cut.now.inside.number absent_pair) }
+            ≤ D.given_bytes source.old + slice_length (total_of shard.entry)
+            (get_or (pairs_in shard.entry.known.now) given.entry.cut.now.inside.number
+            absent_pair) }
         ensures follows { D.follows source.old source.new }
     {
         let inside = &given.cut.inside;

@@ -1,27 +1,31 @@
 //! Parts of arrays, cut into the slices of the subchunks that they meet.
-ghost use Rattle.std.specs.Prelude.{◌≡◌, ◌<◌, ◌≤◌, ◌+◌, ℕ, List, [], None, length, get_or, unwrap_or, IsTrue, IfOk};
+ghost use Rattle.std.specs.Prelude.{◌≡◌, ◌<◌, ◌≤◌, ◌+◌, ℕ, List, [], None, length, get_or, true, unwrap_or, IsTrue, IfOk};
 ghost use Rattle.zarr_codecs_arrays.specs.Views.{elements_of};
+ghost use Rattle.zarr_codecs_meaning.specs.Chains.{Chain};
 ghost use Rattle.zarr_codecs_meaning.specs.Encoding.{absent_pair};
-ghost use Rattle.zarr_codecs_traits.specs.Indexers.{asked_of, in_box, listed};
+ghost use Rattle.zarr_codecs_meaning.specs.Fits.{fits};
+ghost use Rattle.zarr_codecs_traits.specs.Arrays.{coded_part};
+ghost use Rattle.zarr_codecs_traits.specs.Indexers.{are_inside, asked_of, in_box, listed};
+ghost use Rattle.zarr_codecs_traits.specs.Pieces.{SplitsPart, refused_splitting};
+ghost use Rattle.zarr_codecs_traits.specs.ReadBytes.{slice_length};
 ghost use Rattle.zarr_grids_boxes.specs.Subsets.{region_of};
-ghost use Rattle.zarr_sharding_codec.specs.Pieces.{HasNoPiece, IsBehind, PutsPart, ReadsMore, asked_piece, refused_reading};
+ghost use Rattle.zarr_sharding_codec.specs.Pieces.{HasNoPiece, IsBehind, IsCutPart, PutsPart, ReadsMore, asked_piece, refused_reading};
 ghost use Rattle.zarr_sharding_codec.specs.Reading.{IsTotalOf};
 ghost use Rattle.zarr_sharding_index.specs.Present.{all_pairs};
-ghost use Rattle.zarr_sharding_state.specs.States.{slice_length};
 
 use crate::box_reading::{AskedBox, BoxCut, IndexedPlaces};
 use crate::codec::ShardingCodec;
-use crate::partial::{NumberedPlaces, OpenedShard, fill_elements};
+use crate::partial::{NumberedPlaces, OpenedShard};
 use std::alloc::{AllocError, Global};
 use zarr_codecs_arrays::{ArrayBytes, CodecError, Elements};
-use zarr_codecs_regions::count_asked;
+use zarr_codecs_regions::{fill_asked, is_box_too_large};
 use zarr_codecs_traits::{
     ArrayPart, ArrayToBytesCodecTraits, ByteRange, BytesPartialDecoderTraits, Indexer, PiecePlaces,
     PieceSlice, SplitValue, ValuePieces, WholeArray,
 };
 use zarr_grids_boxes::ArraySubset;
 use zarr_grids_boxes::walk::count_places;
-use zarr_sharding_index::held::fetch_slice;
+use zarr_sharding_index::fetched_index::fetch_slice;
 use zarr_sharding_index::pair::is_absent;
 use zarr_sharding_places::{
     BoxedElements, PlacedElements, insides_of, leading_group, positions_of,
@@ -47,8 +51,8 @@ impl<I: ArrayToBytesCodecTraits, X: ArrayToBytesCodecTraits> ShardingCodec<I, X>
     ghost use Rattle.zarr_sharding_index.specs.Present.{all_pairs};
 
     /// The slices of the present subchunks that the places lie in that are asked for, which are the
-    /// array's, read of the shard that a source holds; its index has so many bytes. Errors as those
-    /// of `open_index`.
+    /// array's, read of the shard that a source holds; its index has so many bytes. `Size` where a
+    /// box has 2^63 elements or more, or as many bytes; else errors as those of `open_index`.
     pub(crate) fn cut_part<D: BytesPartialDecoderTraits>(
         &self,
         alloc: Global,
@@ -74,6 +78,9 @@ impl<I: ArrayToBytesCodecTraits, X: ArrayToBytesCodecTraits> ShardingCodec<I, X>
             (D.contents source.old) (asked_of part.entry.indexer) }
         ensures follows { D.follows source.old source.new }
     {
+        if is_box_too_large(part) {
+            return Err(CodecError::Size);
+        }
         match self.open_index(alloc, source, size, part.shape) {
             Ok(Some(fetched)) => {
                 let shard = OpenedShard {
@@ -85,13 +92,7 @@ impl<I: ArrayToBytesCodecTraits, X: ArrayToBytesCodecTraits> ShardingCodec<I, X>
                 let asked = IndexedPlaces { shape, indexer };
                 Ok(SplitValue::Cut(self.cut_asked(alloc, source, shard, asked)?))
             }
-            Ok(None) => {
-                let Some(count) = count_asked(part.shape, part.indexer) else {
-                    return Err(CodecError::Memory);
-                };
-                let filled = fill_elements(alloc, part.elements, count as usize)?;
-                Ok(SplitValue::Decoded(filled))
-            }
+            Ok(None) => fill_split(alloc, part),
             Err(error) => Err(error),
         }
     }
@@ -121,7 +122,7 @@ impl<I: ArrayToBytesCodecTraits, X: ArrayToBytesCodecTraits> ShardingCodec<I, X>
         ensures given { IsTrue (D.is_honest source.old) → D.given_bytes source.new
             ≤ D.given_bytes source.old + bytes_met asked.entry.shape.now (subchunk_of self.now)
             (numbers_asked asked.entry.shape.now (asked_of asked.entry.indexer))
-            (all_pairs shard.entry.pairs.now) }
+            (all_pairs shard.entry.pairs.now) shard.entry.total }
         ensures follows { D.follows source.old source.new }
     {
         let shape = asked.shape;
@@ -161,7 +162,7 @@ impl<I: ArrayToBytesCodecTraits, X: ArrayToBytesCodecTraits> ShardingCodec<I, X>
         ensures given { IsTrue (D.is_honest source.old) → D.given_bytes source.new
             ≤ D.given_bytes source.old + bytes_met asked.entry.shape.now (subchunk_of self.now)
             (numbers_of asked.entry.shape.now (region_of asked.entry.region.now))
-            (all_pairs shard.entry.pairs.now) }
+            (all_pairs shard.entry.pairs.now) shard.entry.total }
         ensures follows { D.follows source.old source.new }
     {
         let found = self.subchunks_met(alloc, asked.shape, asked.region)?;
@@ -204,7 +205,7 @@ impl<I: ArrayToBytesCodecTraits, X: ArrayToBytesCodecTraits> ShardingCodec<I, X>
             refused_reading (D.refused_calls source.old) result }
         ensures given { IsTrue (D.is_honest source.old) → D.given_bytes source.new
             ≤ D.given_bytes source.old + bytes_met asked.entry.shape.now (subchunk_of self.now)
-            asked.entry.numbers.now (all_pairs shard.entry.pairs.now) }
+            asked.entry.numbers.now (all_pairs shard.entry.pairs.now) shard.entry.total }
         ensures follows { D.follows source.old source.new }
     {
         let places = self.places_of(alloc, asked)?;
@@ -223,6 +224,21 @@ impl<I: ArrayToBytesCodecTraits, X: ArrayToBytesCodecTraits> ShardingCodec<I, X>
             rest = others;
         }
         Ok(pieces)
+    }
+}
+
+/// The fill values of the places that are asked for, where nothing is stored.
+fn fill_split(alloc: Global, part: ArrayPart<'_>) -> Result<SplitValue, CodecError>
+    requires inside { are_inside part.shape.now (asked_of part.indexer) ≡ true }
+    ensures part { (chain : Chain) → fits chain (elements_of part.entry.elements.now).type
+        part.entry.shape.now ≡ true → SplitsPart (IsCutPart (coded_part chain part.entry) None
+        (asked_of part.entry.indexer)) (coded_part chain part.entry) None
+        (asked_of part.entry.indexer) result }
+    ensures refused { (count : ℕ) → refused_splitting count result ≡ count }
+{
+    match fill_asked(alloc, part) {
+        Ok(filled) => Ok(SplitValue::Decoded(filled)),
+        Err(error) => Err(error),
     }
 }
 
@@ -257,8 +273,8 @@ fn read_more<D: BytesPartialDecoderTraits>(
     ensures refused { D.refused_calls source.new ≡
         refused_reading (D.refused_calls source.old) result }
     ensures given { IsTrue (D.is_honest source.old) → D.given_bytes source.new
-        ≤ D.given_bytes source.old
-        + slice_length (get_or (all_pairs shard.entry.pairs.now) number absent_pair) }
+        ≤ D.given_bytes source.old + slice_length shard.entry.total
+        (get_or (all_pairs shard.entry.pairs.now) number absent_pair) }
     ensures follows { D.follows source.old source.new }
 {
     let pair = shard.pairs.get(number as usize);

@@ -7,7 +7,7 @@ use crate::codec::ShardingCodec;
 use crate::subchunks::{CutArray, first_place, move_to_subchunk, numbered_region};
 use std::alloc::{AllocError, Global};
 use zarr_codecs_arrays::{ArrayBytes, CodecError};
-use zarr_codecs_regions::{count_asked, test_asked};
+use zarr_codecs_regions::{count_asked, count_elements, test_asked};
 use zarr_codecs_traits::{
     ArrayToBytesCodecTraits, Indexer, PiecePlaces, PieceSlice, ValuePieces, WholeArray,
 };
@@ -146,7 +146,7 @@ impl<I: ArrayToBytesCodecTraits, X: ArrayToBytesCodecTraits> ShardingCodec<I, X>
             grid,
             count,
         };
-        let Some(total) = count_places(shape) else {
+        let Some(total) = count_elements(shape, array.elements) else {
             return Err(CodecError::Size);
         };
         let filled = BoxedElements::new_fill_value(alloc, total as usize, array.elements)?;

@@ -1,16 +1,21 @@
 //! The elements of an array that a shard is decoded to.
+ghost use Rattle.std.specs.Prelude.{◌≡◌, ℕ, Err};
+ghost use Rattle.zarr_grids_boxes.specs.Boxes.{product};
+ghost use Rattle.zarr_codecs_meaning.specs.Types.{IsTooLarge};
 ghost use Rattle.zarr_codecs_arrays.specs.Views.{elements_of};
+ghost use Rattle.zarr_codecs_traits.specs.Sources.{refused_after};
 ghost use Rattle.zarr_sharding_codec.specs.Reading.{FillsPiece};
 
 use crate::codec::ShardingCodec;
 use crate::subchunks::{CutArray, first_place, move_to_subchunk};
 use std::alloc::Global;
 use zarr_codecs_arrays::{ArrayBytes, CodecError, Elements};
+use zarr_codecs_regions::{count_elements, fill_array};
 use zarr_codecs_traits::{ArrayToBytesCodecTraits, WholeArray};
 use zarr_codecs_types::DataType;
 use zarr_grids_boxes::ArraySubset;
 use zarr_grids_boxes::walk::count_places;
-use zarr_sharding_index::held::decode_index;
+use zarr_sharding_index::fetched_index::decode_index;
 use zarr_sharding_index::pair::{is_absent, slice_at};
 use zarr_sharding_index::shapes::{grid_of, index_shape};
 use zarr_sharding_index::{IndexLayout, ShardIndex};
@@ -39,12 +44,13 @@ impl<I: ArrayToBytesCodecTraits, X: ArrayToBytesCodecTraits> ShardingCodec<I, X>
     ghost use Rattle.zarr_codecs_meaning.specs.Places.{index_shape, parts_of};
     ghost use Rattle.zarr_codecs_types.specs.Views.{type_of};
     ghost use Rattle.zarr_grids_boxes.specs.Subsets.{region_of};
-    ghost use Rattle.zarr_sharding_codec.specs.Reading.{DecodesIndexOf, DecodesPiece, DecodesPieces, PutsPiece};
+    ghost use Rattle.zarr_sharding_codec.specs.Reading.{DecodesIndexOf, DecodesPiece, DecodesPieces, PutsPiece, found_piece, subchunks_of};
     ghost use Rattle.zarr_sharding_codec.specs.Views.{index_of, inner_of, place_of_index, shard_chain, subchunk_of};
-    ghost use Rattle.zarr_sharding_index.specs.Held.{DecodesIndex};
+    ghost use Rattle.zarr_sharding_index.specs.HeldIndex.{DecodesIndex};
     ghost use Rattle.zarr_sharding_index.specs.Stored.{index_fits};
     ghost use Rattle.zarr_sharding_index.specs.Views.{pairs_of};
     ghost use Rattle.zarr_sharding_places.specs.Pieces.{piece_decoded};
+    ghost use Rattle.zarr_codecs_traits.specs.Arrays.{coded};
 
     /// The index that a shard holds, of which this is the shape of the array. `Fit` where the codec
     /// doesn't suit the array; `Damage` where the value has fewer bytes than its index, or no index
@@ -56,9 +62,9 @@ impl<I: ArrayToBytesCodecTraits, X: ArrayToBytesCodecTraits> ShardingCodec<I, X>
         data_type: &DataType,
         shape: &[u64],
     ) -> Result<ShardIndex, CodecError>
-        ensures { DecodesIndexOf (fits (shard_chain I.meaning X.meaning self.now)
-            (type_of data_type.now) shape.now) (X.meaning (index_of self.now))
-            (place_of_index self.now) (index_shape shape.now (subchunk_of self.now)) value.now
+        ensures { DecodesIndexOf (DecodesIndex (X.meaning (index_of self.now))
+            (place_of_index self.now) (index_shape shape.now (subchunk_of self.now)) value.now)
+            (fits (shard_chain I.meaning X.meaning self.now) (type_of data_type.now) shape.now)
             result }
     {
         let Some(size) = self.suited(alloc, data_type, shape)? else {
@@ -106,8 +112,8 @@ impl<I: ArrayToBytesCodecTraits, X: ArrayToBytesCodecTraits> ShardingCodec<I, X>
             (elements_of array.elements.now).type array.shape.now ≡ true }
         requires many { length (pairs_of shard.index.now)
             ≡ length (parts_of array.shape.now (subchunk_of self.now)) }
-        ensures { DecodesPieces (I.meaning (inner_of self.now))
-            (elements_of array.entry.elements.now) array.entry.shape.now (subchunk_of self.now)
+        ensures { DecodesPieces (subchunks_of (I.meaning (inner_of self.now))
+            (elements_of array.entry.elements.now) array.entry.shape.now (subchunk_of self.now))
             shard.entry.value.now (pairs_of shard.entry.index.now) result }
     {
         let edges = self.subchunk_shape.as_slice();
@@ -123,7 +129,7 @@ impl<I: ArrayToBytesCodecTraits, X: ArrayToBytesCodecTraits> ShardingCodec<I, X>
             grid,
             count,
         };
-        let Some(total) = count_places(array.shape) else {
+        let Some(total) = count_elements(array.shape, array.elements) else {
             return Err(CodecError::Size);
         };
         let filled = BoxedElements::new_fill_value(alloc, total as usize, array.elements)?;
@@ -162,12 +168,12 @@ impl<I: ArrayToBytesCodecTraits, X: ArrayToBytesCodecTraits> ShardingCodec<I, X>
             ≡ true }
         requires below { place.number < length (pairs_of shard.index.now) }
         ensures { PutsPiece (elements_of place.entry.array.elements.now)
-            (region_of place.entry.region.now).shape
+            (found_piece (region_of place.entry.region.now).shape
             (piece_decoded (I.meaning (inner_of self.now))
             (elements_of place.entry.array.elements.now) shard.entry.value.now
             (region_of place.entry.region.now).shape
             (get_or (pairs_of shard.entry.index.now) place.entry.number absent_pair))
-            place.entry.array.shape.now (region_of place.entry.region.now) all result }
+            place.entry.array.shape.now (region_of place.entry.region.now)) all result }
     {
         let elements = place.array.elements;
         let shape = place.region.shape();
@@ -194,9 +200,9 @@ impl<I: ArrayToBytesCodecTraits, X: ArrayToBytesCodecTraits> ShardingCodec<I, X>
         requires fit { fits (I.meaning (inner_of self.now))
             (elements_of subchunk.elements.now).type subchunk.shape.now ≡ true }
         requires below { n < length (pairs_of shard.index.now) }
-        ensures { DecodesPiece (I.meaning (inner_of self.now))
-            (elements_of subchunk.entry.elements.now) shard.entry.value.now
-            subchunk.entry.shape.now (get_or (pairs_of shard.entry.index.now) n absent_pair)
+        ensures { DecodesPiece (coded (I.meaning (inner_of self.now))
+            (elements_of subchunk.entry.elements.now) subchunk.entry.shape.now)
+            shard.entry.value.now (get_or (pairs_of shard.entry.index.now) n absent_pair)
             result }
     {
         let elements = subchunk.elements;
@@ -214,16 +220,17 @@ impl<I: ArrayToBytesCodecTraits, X: ArrayToBytesCodecTraits> ShardingCodec<I, X>
     }
 }
 
-/// As many fill values as a shape has places.
+/// As many fill values as a shape has places. `Size` where they are 2^63 or more or would have as
+/// many bytes, before any memory is asked for.
 pub(crate) fn fill_piece(
     alloc: Global,
     elements: &Elements,
     shape: &[u64],
 ) -> Result<ArrayBytes, CodecError>
-    ensures { FillsPiece (elements_of elements.now) shape.now result }
+    ensures lists { FillsPiece (elements_of elements.now) shape.now result }
+    ensures large { IsTooLarge (elements_of elements.now).type (product shape.now)
+        → result ≡ Err CodecError.Size }
+    ensures no_source { (count : ℕ) → refused_after count result ≡ count }
 {
-    let Some(count) = count_places(shape) else {
-        return Err(CodecError::Size);
-    };
-    ArrayBytes::new_fill_value(alloc, elements, count)
+    fill_array(alloc, elements, shape)
 }

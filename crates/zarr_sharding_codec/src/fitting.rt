@@ -19,8 +19,7 @@ impl<I: ArrayToBytesCodecTraits, X: ArrayToBytesCodecTraits> ShardingCodec<I, X>
     ghost use Rattle.zarr_sharding_codec.specs.Views.{inner_of, shard_chain, subchunk_of};
 
     /// How many bytes the index of a shard has, where the codec suits arrays of a data type and a
-    /// shape. `Err` where an allocation failed, or a caller's bytes codec tells that it makes 2^63
-    /// bytes or more of the index.
+    /// shape. `Err` only where an allocation failed.
     pub fn suited(
         &self,
         alloc: Global,

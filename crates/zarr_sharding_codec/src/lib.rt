@@ -16,6 +16,7 @@ mod decoding;
 mod encoding;
 mod fitting;
 mod inner;
+mod known_shards;
 mod made_pieces;
 mod options;
 pub mod part_writing;

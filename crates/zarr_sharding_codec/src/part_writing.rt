@@ -7,9 +7,7 @@ use zarr_codecs_arrays::{ArrayBytes, CodecError};
 use zarr_codecs_regions::{count_asked, test_asked};
 use zarr_codecs_traits::{ArrayPart, ArrayToBytesCodecTraits, BytesPartialEncoderTraits};
 use zarr_grids_boxes::walk::count_places;
-use zarr_sharding_index::IndexLayout;
-use zarr_sharding_index::shapes::index_shape;
-use zarr_sharding_state::{GivenChanges, KnownShard, ShardChanges};
+use zarr_sharding_index::{KnownShard, SliceChange};
 
 /// Elements that can be put at the places of an array that are asked for, one for each, and how
 /// many bytes the index of the array's shard has.
@@ -20,23 +18,21 @@ pub struct TestedPart<'a> {
 }
 
 impl<I: ArrayToBytesCodecTraits, X: ArrayToBytesCodecTraits> ShardingCodec<I, X> {
-    ghost use Rattle.std.specs.Prelude.{◌≡◌, ◌+◌, ◌*◌, ◌<◌, ◌≤◌, ◌^◌, ℕ, List, Option, Some, true, length, nat_lt, unwrap_or, IsTrue, IfOk};
+    ghost use Rattle.std.specs.Prelude.{◌≡◌, ◌+◌, ◌<◌, ◌≤◌, ℕ, List, Option, Some, true, length, IsTrue, IfOk};
     ghost use Rattle.std.specs.List.{list_all};
-    ghost use Rattle.zarr_codecs_arrays.specs.Views.{elements_of, payload_of};
+    ghost use Rattle.zarr_codecs_arrays.specs.Views.{payload_of};
     ghost use Rattle.zarr_codecs_meaning.specs.Encoding.{index_size};
     ghost use Rattle.zarr_codecs_traits.specs.Indexers.{asked_of, numbers_asked};
     ghost use Rattle.zarr_codecs_traits.specs.Arrays.{coded_part, update_part};
     ghost use Rattle.zarr_codecs_traits.specs.PartWriting.{NotEncodedInto};
     ghost use Rattle.zarr_codecs_traits.specs.ShardWrites.{most_to_write};
     ghost use Rattle.zarr_codecs_traits.specs.Sources.{refused_after};
-    ghost use Rattle.zarr_grids_boxes.specs.Boxes.{product};
-    ghost use Rattle.zarr_sharding_changes.specs.Changes.{appended, pairs_after};
-    ghost use Rattle.zarr_sharding_codec.specs.Appending.{AppendsChanges, AppendsPart, ChangesUnwritten, IsTestedPart, TriedToWrite};
-    ghost use Rattle.zarr_sharding_codec.specs.Views.{index_of, makes_a_function, place_of_index, shard_chain, subchunk_of};
+    ghost use Rattle.zarr_sharding_changes.specs.Changes.{pairs_after};
+    ghost use Rattle.zarr_sharding_codec.specs.Appending.{AppendsChanges, AppendsPart, ChangesUnwritten, IsTestedPart, TriedToWrite, most_tried, shard_write};
+    ghost use Rattle.zarr_sharding_codec.specs.Views.{index_of, makes_a_function, shard_chain};
     ghost use Rattle.zarr_sharding_index.specs.Stored.{index_fits};
-    ghost use Rattle.zarr_sharding_index.specs.Views.{location_of};
-    ghost use Rattle.zarr_sharding_state.specs.States.{end_of, pairs_in};
-    ghost use Rattle.zarr_sharding_state.specs.Views.{changes_of, is_below};
+    ghost use Rattle.zarr_sharding_index.specs.Known.{end_of, pairs_in, known_index, known_length, known_shape};
+    ghost use Rattle.zarr_sharding_index.specs.SliceChanges.{changes_of, is_below};
 
     /// How many bytes the index of the array's shard has, where elements can be put at the places
     /// that are asked for. `Fit` where the codec doesn't suit the array; `IncompatibleIndexer`
@@ -44,15 +40,15 @@ impl<I: ArrayToBytesCodecTraits, X: ArrayToBytesCodecTraits> ShardingCodec<I, X>
     /// `CellOutOfRange` where these are not elements, one for each place; `Size` where the array
     /// has 2^63 places or more.
     #[tactic(auto, using(zarr_codecs_regions::proofs::AskedPlaces::asked_places))]
-    pub fn test_part(
+    pub fn index_size_for(
         &self,
         alloc: Global,
         bytes: &ArrayBytes,
         part: ArrayPart<'_>,
     ) -> Result<u64, CodecError>
         ensures ok { IfOk result (λ size. IsTestedPart
-            (shard_chain I.meaning X.meaning self.now) (elements_of part.entry.elements.now)
-            part.entry.shape.now (asked_of part.entry.indexer) (payload_of bytes.now) size
+            (coded_part (shard_chain I.meaning X.meaning self.now) part.entry)
+            (asked_of part.entry.indexer) (payload_of bytes.now) size
             (numbers_asked part.entry.shape.now (asked_of part.entry.indexer))) }
         ensures cause { (stored : Option (List ℕ)) → NotEncodedInto
             (coded_part (shard_chain I.meaning X.meaning self.now) part.entry)
@@ -89,8 +85,8 @@ impl<I: ArrayToBytesCodecTraits, X: ArrayToBytesCodecTraits> ShardingCodec<I, X>
         tested: TestedPart<'_>,
         part: ArrayPart<'_>,
     ) -> Result<bool, CodecError>
-        requires tested { IsTestedPart (shard_chain I.meaning X.meaning self.now)
-            (elements_of part.elements.now) part.shape.now (asked_of part.indexer)
+        requires tested { IsTestedPart
+            (coded_part (shard_chain I.meaning X.meaning self.now) part) (asked_of part.indexer)
             (payload_of tested.bytes.now) tested.size
             (numbers_asked part.shape.now (asked_of part.indexer)) }
         ensures ok { IsTrue (E.is_honest source.old) → IfOk result (AppendsPart
@@ -101,25 +97,19 @@ impl<I: ArrayToBytesCodecTraits, X: ArrayToBytesCodecTraits> ShardingCodec<I, X>
         ensures cause { IsTrue (E.is_honest source.old) → NotEncodedInto
             (coded_part (shard_chain I.meaning X.meaning self.now) part.entry)
             (update_part part.entry tested.entry.bytes.now (E.contents source.old)) result }
-        ensures given { IsTrue (E.is_honest source.old) → IsTrue (E.writes_ranges source.old) →
+        ensures given { IsTrue (E.is_honest source.old) →
             E.given_bytes source.new ≤ E.given_bytes source.old + most_to_write
             (coded_part (shard_chain I.meaning X.meaning self.now) part.entry)
-            (update_part part.entry tested.entry.bytes.now (E.contents source.old)) }
+            (update_part part.entry tested.entry.bytes.now (E.contents source.old))
+            + most_tried (E.writes_ranges source.old) (E.contents source.old) result }
         ensures call { TriedToWrite E.BytesPartialEncoderTraits.own E.BytesPartialDecoderTraits
             source.old source.new result }
     {
-        let pairs_shape = index_shape(alloc, part.shape, &self.subchunk_shape)?;
-        let layout = IndexLayout {
-            location: self.index_location,
-            shape: pairs_shape.as_slice(),
-            size: tested.size,
-        };
         let bytes = tested.bytes.try_clone(alloc)?;
-        match KnownShard::open(alloc, source, &self.index_codecs, layout) {
+        match self.open_known(alloc, source, tested.size, part.shape) {
             Ok(known) => {
                 let shard = ShardInSource {
                     known: &known,
-                    layout,
                     elements: part.elements,
                 };
                 let given = AskedElements {
@@ -128,10 +118,7 @@ impl<I: ArrayToBytesCodecTraits, X: ArrayToBytesCodecTraits> ShardingCodec<I, X>
                     bytes,
                 };
                 match self.update_asked(alloc, source, shard, given) {
-                    Ok(changes) => {
-                        let given = GivenChanges { layout, changes };
-                        self.append_changes(alloc, source, known, given)
-                    }
+                    Ok(changes) => self.append_changes(alloc, source, known, changes),
                     Err(error) => Err(error),
                 }
             }
@@ -146,36 +133,30 @@ impl<I: ArrayToBytesCodecTraits, X: ArrayToBytesCodecTraits> ShardingCodec<I, X>
         alloc: Global,
         source: &mut E,
         known: KnownShard,
-        given: GivenChanges<'_>,
+        changes: Vec<SliceChange>,
     ) -> Result<bool, CodecError>
-        requires fit { index_fits (X.meaning (index_of self.now)) given.layout.shape.now ≡ true }
-        requires size { given.layout.size ≡ index_size (X.meaning (index_of self.now))
-            given.layout.shape.now }
-        requires many { product given.layout.shape.now ≡ 2 * length (pairs_in known) }
-        requires below { list_all (is_below (length (pairs_in known))) given.changes.items ≡ true }
+        requires fit { index_fits (X.meaning (index_of self.now)) (known_shape known) ≡ true }
+        requires size { known_length known ≡ index_size (X.meaning (index_of self.now))
+            (known_shape known) }
+        requires below { list_all (is_below (length (pairs_in known))) changes.items ≡ true }
         ensures ok { IsTrue (E.is_honest source.old) → IfOk result
-            (AppendsChanges (X.meaning (index_of self.now)) (X.is_function (index_of self.now))
-            (location_of given.entry.layout.location) given.entry.layout.shape.now
-            (changes_of given.entry.changes.items) (end_of known) (pairs_in known)
-            (E.contents source.old) (E.contents source.new)) }
+            (AppendsChanges (known_index (X.meaning (index_of self.now))
+            (X.is_function (index_of self.now)) known) (shard_write (changes_of changes.items)
+            (end_of known) (pairs_in known) (E.contents source.old)) (E.contents source.new)) }
         ensures cause { IsTrue (E.is_honest source.old) → ChangesUnwritten
-            (X.meaning (index_of self.now)) given.entry.layout.shape.now
-            (pairs_after (end_of known) (changes_of given.entry.changes.items) (pairs_in known))
-            result }
-        ensures given { IsTrue (E.writes_ranges source.old) →
-            E.given_bytes source.new ≡ E.given_bytes source.old }
+            (X.meaning (index_of self.now)) (known_shape known)
+            (pairs_after (end_of known) (changes_of changes.items) (pairs_in known)) result }
+        ensures given { IsTrue (E.is_honest source.old) →
+            E.given_bytes source.new ≤ E.given_bytes source.old
+            + most_tried (E.writes_ranges source.old) (E.contents source.old) result }
         ensures call { TriedToWrite E.BytesPartialEncoderTraits.own E.BytesPartialDecoderTraits
             source.old source.new result }
     {
-        let lent = ShardChanges {
-            layout: given.layout,
-            changes: given.changes.as_slice(),
-        };
-        if !known.has_room(lent) {
+        if !known.has_room(changes.as_slice()) {
             return Ok(false);
         }
         let mut known = known;
-        match known.write_given(alloc, source, &self.index_codecs, given) {
+        match known.write_given(alloc, source, &self.index_codecs, changes) {
             Ok(()) => Ok(true),
             Err(error) => Err(error),
         }

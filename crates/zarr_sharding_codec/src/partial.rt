@@ -1,5 +1,5 @@
 //! Parts of an array, read from parts of its shard.
-ghost use Rattle.std.specs.Prelude.{◌≡◌, ◌<◌, List, length, map, replicate, Some, true, IfOk};
+ghost use Rattle.std.specs.Prelude.{◌≡◌, ◌<◌, List, length, map, Some, true, IfOk};
 ghost use Rattle.zarr_codecs_arrays.specs.Views.{elements_of, payload_of};
 ghost use Rattle.zarr_codecs_meaning.specs.Payloads.{cells_in};
 ghost use Rattle.zarr_codecs_meaning.specs.Places.{place_numbers};
@@ -15,13 +15,13 @@ use crate::subchunks::part_shape;
 use crate::whole_subchunk::are_equal;
 use std::alloc::{AllocError, Global};
 use zarr_codecs_arrays::{ArrayBytes, CodecError, Elements};
-use zarr_codecs_regions::count_asked;
+use zarr_codecs_regions::fill_asked;
 use zarr_codecs_traits::{
     ArrayPart, ArrayToBytesCodecTraits, BytesPartialDecoderTraits, Indexer, MemorySource,
     WholeArray,
 };
 use zarr_grids_boxes::walk::count_places;
-use zarr_sharding_index::held::{fetch_index, fetch_slice};
+use zarr_sharding_index::fetched_index::{fetch_index, fetch_slice};
 use zarr_sharding_index::pair::is_absent;
 use zarr_sharding_index::shapes::{grid_of, index_shape};
 use zarr_sharding_index::{FetchedIndex, IndexLayout, PresentPairs};
@@ -62,20 +62,19 @@ impl<I: ArrayToBytesCodecTraits, X: ArrayToBytesCodecTraits> ShardingCodec<I, X>
     ghost use Rattle.zarr_codecs_meaning.specs.Fits.{fits};
     ghost use Rattle.zarr_codecs_meaning.specs.Places.{grid_of, index_shape, parts_of, place_numbers};
     ghost use Rattle.zarr_codecs_traits.specs.Indexers.{are_inside, asked_of, numbers_asked};
-    ghost use Rattle.zarr_codecs_traits.specs.Arrays.{coded_part};
+    ghost use Rattle.zarr_codecs_traits.specs.Arrays.{coded, coded_part};
     ghost use Rattle.zarr_codecs_traits.specs.Outcomes.{DecodesPart};
-    ghost use Rattle.zarr_codecs_traits.specs.ReadBytes.{most_read};
+    ghost use Rattle.zarr_codecs_traits.specs.ReadBytes.{most_read, slice_length};
     ghost use Rattle.zarr_codecs_traits.specs.Sources.{refused_after, value_length};
     ghost use Rattle.zarr_grids_boxes.specs.Boxes.{product};
     ghost use Rattle.zarr_sharding_codec.specs.BytesMet.{bytes_met};
-    ghost use Rattle.zarr_sharding_codec.specs.Reading.{HasPairs, IsTotalOf, Lists, ListsRead, places_decoded, shard_cells, slice_cells};
+    ghost use Rattle.zarr_sharding_codec.specs.Reading.{HasPairs, IsTotalOf, Lists, ListsRead, places_decoded, shard_cells, slice_cells, subchunks_of};
     ghost use Rattle.zarr_sharding_codec.specs.Views.{index_of, inner_of, place_of_index, shard_chain, subchunk_of};
-    ghost use Rattle.zarr_sharding_index.specs.Held.{FetchesIndex};
+    ghost use Rattle.zarr_sharding_index.specs.HeldIndex.{FetchesIndex};
     ghost use Rattle.zarr_sharding_index.specs.Stored.{index_fits};
     ghost use Rattle.zarr_sharding_index.specs.Present.{all_pairs};
     ghost use Rattle.zarr_sharding_places.specs.Groups.{places_in};
     ghost use Rattle.zarr_sharding_places.specs.Locating.{asked_places};
-    ghost use Rattle.zarr_sharding_state.specs.States.{slice_length};
 
     /// The elements at the places that are asked for, which are the array's, of the shard that a
     /// source holds; its index has so many bytes. Errors as those of `partial_decode`.
@@ -117,12 +116,7 @@ impl<I: ArrayToBytesCodecTraits, X: ArrayToBytesCodecTraits> ShardingCodec<I, X>
                 };
                 self.read_asked(alloc, source, shard, asked)
             }
-            Ok(None) => {
-                let Some(count) = count_asked(part.shape, part.indexer) else {
-                    return Err(CodecError::Memory);
-                };
-                Ok(fill_elements(alloc, part.elements, count as usize)?)
-            }
+            Ok(None) => fill_asked(alloc, part),
             Err(error) => Err(error),
         }
     }
@@ -194,14 +188,15 @@ impl<I: ArrayToBytesCodecTraits, X: ArrayToBytesCodecTraits> ShardingCodec<I, X>
         ensures part { IsTrue (D.is_honest source.old) → IsTotalOf (D.contents source.old)
             (all_pairs shard.entry.pairs.now) shard.entry.total
             → ListsRead (elements_of shard.entry.elements.now) asked.entry.shape.now
-            (shard_cells (I.meaning (inner_of self.now)) (elements_of shard.entry.elements.now)
-            asked.entry.shape.now (subchunk_of self.now) (unwrap_or (D.contents source.old) [])
-            (all_pairs shard.entry.pairs.now) asked.entry.numbers.now) result }
+            (shard_cells (subchunks_of (I.meaning (inner_of self.now))
+            (elements_of shard.entry.elements.now) asked.entry.shape.now (subchunk_of self.now))
+            (unwrap_or (D.contents source.old) []) (all_pairs shard.entry.pairs.now)
+            asked.entry.numbers.now) result }
         ensures refused { D.refused_calls source.new ≡
             refused_after (D.refused_calls source.old) result }
         ensures given { IsTrue (D.is_honest source.old) → D.given_bytes source.new
             ≤ D.given_bytes source.old + bytes_met asked.entry.shape.now (subchunk_of self.now)
-            asked.entry.numbers.now (all_pairs shard.entry.pairs.now) }
+            asked.entry.numbers.now (all_pairs shard.entry.pairs.now) shard.entry.total }
         ensures follows { D.follows source.old source.new }
     {
         let places = self.places_of(alloc, asked)?;
@@ -265,14 +260,15 @@ impl<I: ArrayToBytesCodecTraits, X: ArrayToBytesCodecTraits> ShardingCodec<I, X>
         ensures part { IsTrue (D.is_honest source.old) → IsTotalOf (D.contents source.old)
             (all_pairs shard.entry.pairs.now) shard.entry.total
             → ListsRead (elements_of shard.entry.elements.now) part.entry.shape.now
-            (places_decoded (I.meaning (inner_of self.now)) (elements_of shard.entry.elements.now)
-            (unwrap_or (D.contents source.old) []) part.entry.shape.now
+            (places_decoded (coded (I.meaning (inner_of self.now))
+            (elements_of shard.entry.elements.now) part.entry.shape.now)
+            (unwrap_or (D.contents source.old) [])
             (get_or (all_pairs shard.entry.pairs.now) part.entry.number absent_pair)
             (map (λ place. place.inside) part.entry.group.now)) result }
         ensures refused { D.refused_calls source.new ≡
             refused_after (D.refused_calls source.old) result }
         ensures given { IsTrue (D.is_honest source.old) → D.given_bytes source.new
-            ≤ D.given_bytes source.old + slice_length
+            ≤ D.given_bytes source.old + slice_length shard.entry.total
             (get_or (all_pairs shard.entry.pairs.now) part.entry.number absent_pair) }
         ensures follows { D.follows source.old source.new }
     {
@@ -280,7 +276,7 @@ impl<I: ArrayToBytesCodecTraits, X: ArrayToBytesCodecTraits> ShardingCodec<I, X>
         let group = part.group;
         let pair = shard.pairs.get(part.number as usize);
         if is_absent(pair) {
-            return Ok(fill_elements(alloc, elements, group.len())?);
+            return Ok(ArrayBytes::fill_values(alloc, elements, group.len())?);
         }
         match fetch_slice(alloc, source, shard.total, pair) {
             Ok(slice) => {
@@ -379,19 +375,4 @@ fn put_group(
 {
     let at = positions_of(alloc, group)?;
     all.put(alloc, at.as_slice(), piece, elements)
-}
-
-/// So many fill values. `Err` only where an allocation failed, as where they would be too many.
-pub fn fill_elements(
-    alloc: Global,
-    elements: &Elements,
-    count: usize,
-) -> Result<ArrayBytes, AllocError>
-    ensures { IfOk result (λ bytes. cells_in (elements_of elements.now).type (payload_of bytes)
-        ≡ Some (replicate count (elements_of elements.now).fill)) }
-{
-    match ArrayBytes::new_fill_value(alloc, elements, count as u64) {
-        Ok(bytes) => Ok(bytes),
-        Err(_) => Err(AllocError),
-    }
 }

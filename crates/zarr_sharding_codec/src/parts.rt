@@ -28,8 +28,7 @@ impl<I: ArrayToBytesCodecTraits, X: ArrayToBytesCodecTraits> ShardingCodec<I, X>
     }
 
     /// How many bytes the index of a shard has, where the codec suits arrays of a data type and a
-    /// shape, else `None`. `Err` where an allocation failed, or a caller's bytes codec tells that it
-    /// makes 2^63 bytes or more of the index.
+    /// shape, else `None`. `Err` only where an allocation failed.
     pub fn index_size(
         &self,
         alloc: Global,

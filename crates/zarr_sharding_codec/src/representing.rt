@@ -1,7 +1,7 @@
 //! What a shard tells of its size.
-ghost use Rattle.std.specs.Prelude.{◌≡◌, ◌+◌, ◌<◌, ℕ, Some, length, option_map};
+ghost use Rattle.std.specs.Prelude.{◌≡◌, ◌+◌, ◌-◌, ◌*◌, ◌^◌, ◌<◌, ℕ, min, Some, length, option_and_then, option_map};
 ghost use Rattle.zarr_codecs_meaning.specs.Fits.{at_most, bound_of};
-ghost use Rattle.zarr_codecs_traits.specs.Representations.{Represents, known_size};
+ghost use Rattle.zarr_codecs_traits.specs.Representations.{RepresentsShort, known_size};
 ghost use Rattle.zarr_codecs_types.specs.Views.{type_of};
 ghost use Rattle.zarr_grids_boxes.specs.Boxes.{product};
 ghost use Rattle.zarr_sharding_codec.specs.Fitting.{BoundsAlone, BoundsShapes, behind, capped};
@@ -53,7 +53,7 @@ impl<I: ArrayToBytesCodecTraits, X: ArrayToBytesCodecTraits> ShardingCodec<I, X>
 
 /// The sum of what codecs make at most of each subchunk that begins with these lengths, in the
 /// later dimensions of an array, which have these sizes, or 2^64 - 1 where it is larger; `None`
-/// where there is no bound. `Size` where one of them is too long.
+/// where one has no bound. `Size` where a size that is told of one of them is too long.
 fn bound_shapes<I: ArrayToBytesCodecTraits>(
     inner_codecs: &I,
     alloc: Global,
@@ -86,7 +86,7 @@ fn bound_shapes<I: ArrayToBytesCodecTraits>(
         );
     }
     let whole = with_length(alloc, front, *edge)?;
-    match bound_shapes(
+    let bound = match bound_shapes(
         inner_codecs,
         alloc,
         data_type,
@@ -94,32 +94,54 @@ fn bound_shapes<I: ArrayToBytesCodecTraits>(
         sizes,
         edges,
     ) {
-        Ok(Some(bound)) => {
-            let all = bound.saturating_mul(*size / *edge);
-            let rest = *size % *edge;
-            if rest == 0 {
-                return Ok(Some(all));
-            }
-            let last = with_length(alloc, front, rest)?;
-            match bound_shapes(
-                inner_codecs,
-                alloc,
-                data_type,
-                last.as_slice(),
-                sizes,
-                edges,
-            ) {
-                Ok(Some(bound)) => Ok(Some(all.saturating_add(bound))),
-                Ok(None) => Ok(None),
-                Err(error) => Err(error),
-            }
-        }
-        Ok(None) => Ok(None),
+        Ok(bound) => bound,
+        Err(error) => return Err(error),
+    };
+    let all = bound_times(bound, *size / *edge);
+    let rest = *size % *edge;
+    if rest == 0 {
+        return Ok(all);
+    }
+    let last = with_length(alloc, front, rest)?;
+    match bound_shapes(
+        inner_codecs,
+        alloc,
+        data_type,
+        last.as_slice(),
+        sizes,
+        edges,
+    ) {
+        Ok(bound) => Ok(bound_sum(all, bound)),
         Err(error) => Err(error),
     }
 }
 
-/// What codecs make at most of one array, where there is a bound. `Size` where that is too long.
+/// A bound so many times, or 2^64 - 1 where it is larger, where there is one.
+fn bound_times(bound: Option<u64>, count: u64) -> Option<u64>
+    ensures { result ≡ option_map (λ n. min (n * count) (2 ^ 64 - 1)) bound }
+{
+    match bound {
+        Some(bound) => Some(bound.saturating_mul(count)),
+        None => None,
+    }
+}
+
+/// The sum of two bounds, or 2^64 - 1 where it is larger, where both are there.
+fn bound_sum(first: Option<u64>, second: Option<u64>) -> Option<u64>
+    ensures { result ≡ option_and_then (λ m. option_map (λ n. min (m + n) (2 ^ 64 - 1)) second)
+        first }
+{
+    let Some(first) = first else {
+        return None;
+    };
+    let Some(second) = second else {
+        return None;
+    };
+    Some(first.saturating_add(second))
+}
+
+/// What codecs make at most of one array, where there is a bound. `Size` where one of them tells
+/// too long a size.
 fn bound_alone<I: ArrayToBytesCodecTraits>(
     inner_codecs: &I,
     alloc: Global,
@@ -148,15 +170,17 @@ fn bound_of(size: BytesRepresentation) -> Option<u64>
 }
 
 /// At most an index of so many bytes and slices of so many together, or of 2^64 - 1 or more. `Size`
-/// where that is too large a number.
+/// where that is 2^63 or more.
 fn bounded(size: u64, slices: u64) -> Result<BytesRepresentation, CodecError>
-    ensures { (sum : ℕ) → slices ≡ capped sum → Represents (at_most (Some (size + sum))) result }
+    ensures { (sum : ℕ) → slices ≡ capped sum
+        → RepresentsShort (at_most (Some (size + sum))) result }
 {
-    if slices == u64::MAX {
+    let Some(all) = slices.checked_add(size) else {
         return Err(CodecError::Size);
-    }
-    match slices.checked_add(size) {
-        Some(all) => Ok(BytesRepresentation::BoundedSize(all)),
-        None => Err(CodecError::Size),
+    };
+    if all < 1 << 63 {
+        Ok(BytesRepresentation::BoundedSize(all))
+    } else {
+        Err(CodecError::Size)
     }
 }

@@ -20,7 +20,7 @@ impl<I: ArrayToBytesCodecTraits, X: ArrayToBytesCodecTraits> ShardingCodec<I, X>
     ghost use Rattle.zarr_codecs_meaning.specs.Places.{parts_of};
     ghost use Rattle.zarr_codecs_meaning.specs.Types.{Cell};
     ghost use Rattle.zarr_grids_boxes.specs.Boxes.{product};
-    ghost use Rattle.zarr_sharding_codec.specs.Slices.{StoresPieces};
+    ghost use Rattle.zarr_sharding_codec.specs.Slices.{StoresPieces, piece_coding};
     ghost use Rattle.zarr_sharding_codec.specs.Views.{inner_of, place_of_index, shard_chain, subchunk_of};
 
     /// What is stored of the subchunks of an array, row-major: of each one its slice, and nothing
@@ -38,8 +38,9 @@ impl<I: ArrayToBytesCodecTraits, X: ArrayToBytesCodecTraits> ShardingCodec<I, X>
             (elements_of array.elements.now).type array.shape.now ≡ true }
         ensures { (cells : List Cell) → IsValid (elements_of array.entry.elements.now).type
             (payload_of bytes.now) (product array.entry.shape.now) cells
-            → StoresPieces (I.meaning (inner_of self.now)) (I.is_function (inner_of self.now))
-            (elements_of array.entry.elements.now) array.entry.shape.now
+            → StoresPieces (piece_coding (I.meaning (inner_of self.now))
+            (I.is_function (inner_of self.now)) (elements_of array.entry.elements.now))
+            array.entry.shape.now
             (pieces_of (elements_of array.entry.elements.now).fill cells
             (parts_of array.entry.shape.now (subchunk_of self.now)))
             (base_of (place_of_index self.now) size) result }

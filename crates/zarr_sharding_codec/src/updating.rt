@@ -1,5 +1,5 @@
 //! Subchunks of a shard in a source, encoded anew where elements are put at places in them.
-ghost use Rattle.std.specs.Prelude.{◌≡◌, ◌<◌, ◌∷◌, List, [], length, Some, true, get_or, nat_lt, IfOk};
+ghost use Rattle.std.specs.Prelude.{◌≡◌, ◌<◌, ◌∷◌, List, [], length, Some, true, nat_lt, IfOk};
 ghost use Rattle.std.specs.List.{list_all};
 ghost use Rattle.zarr_codecs_arrays.specs.Outcomes.{IsCounted};
 ghost use Rattle.zarr_codecs_arrays.specs.Views.{elements_of, payload_of};
@@ -18,16 +18,14 @@ use std::alloc::{AllocError, Global};
 use zarr_codecs_arrays::{ArrayBytes, CodecError, Elements};
 use zarr_codecs_regions::{gather_elements, update_array_bytes};
 use zarr_codecs_traits::{ArrayToBytesCodecTraits, BytesPartialDecoderTraits, Indexer};
-use zarr_sharding_index::IndexLayout;
+use zarr_sharding_index::{KnownShard, SliceChange};
 use zarr_sharding_places::{AskedPlace, insides_of, leading_group, positions_of};
-use zarr_sharding_state::{KnownShard, SliceChange};
 
 /// What is known of the shard of an array in a source: its index and where that stands, and what
 /// its elements are.
 #[derive(Clone, Copy)]
 pub struct ShardInSource<'a> {
     pub known: &'a KnownShard,
-    pub layout: IndexLayout<'a>,
     pub elements: &'a Elements,
 }
 
@@ -50,7 +48,7 @@ pub struct NumberedSubchunk<'a> {
 /// New elements for places of an array, and those of its places that lie in one subchunk, which has
 /// this shape.
 #[derive(Clone, Copy)]
-struct GroupElements<'a> {
+pub(crate) struct GroupElements<'a> {
     bytes: &'a ArrayBytes,
     group: &'a [AskedPlace],
     shape: &'a [u64],
@@ -58,7 +56,7 @@ struct GroupElements<'a> {
 
 /// All elements of a subchunk, in its order.
 #[derive(Drop)]
-struct SubchunkElements<'a> {
+pub(crate) struct SubchunkElements<'a> {
     subchunk: NumberedSubchunk<'a>,
     bytes: ArrayBytes,
 }
@@ -72,27 +70,23 @@ pub struct AskedElements<'a> {
 }
 
 impl<I: ArrayToBytesCodecTraits, X: ArrayToBytesCodecTraits> ShardingCodec<I, X> {
-    ghost use Rattle.std.specs.Prelude.{◌≡◌, ◌<◌, ◌≤◌, ◌+◌, ◌^◌, ℕ, List, Some, true, length, get_or, nat_lt, unwrap_or, [], IsTrue, IfOk};
+    ghost use Rattle.std.specs.Prelude.{◌≡◌, ◌<◌, ◌≤◌, ◌+◌, ◌^◌, List, Some, true, length, get_or, nat_lt, unwrap_or, [], IsTrue, IfOk};
     ghost use Rattle.std.specs.List.{list_all};
-    ghost use Rattle.zarr_codecs_arrays.specs.Outcomes.{IsValid};
-    ghost use Rattle.zarr_codecs_arrays.specs.Views.{elements_of, payload_of};
+    ghost use Rattle.zarr_codecs_arrays.specs.Views.{elements_of};
     ghost use Rattle.zarr_codecs_meaning.specs.Encoding.{absent_pair};
     ghost use Rattle.zarr_codecs_meaning.specs.Fits.{fits};
     ghost use Rattle.zarr_codecs_meaning.specs.Places.{parts_of};
-    ghost use Rattle.zarr_codecs_meaning.specs.Types.{Cell};
-    ghost use Rattle.zarr_codecs_traits.specs.Indexers.{are_inside, asked_of, numbers_asked};
+    ghost use Rattle.zarr_codecs_traits.specs.Indexers.{are_inside, asked_of};
+    ghost use Rattle.zarr_codecs_traits.specs.ReadBytes.{slice_length};
     ghost use Rattle.zarr_codecs_traits.specs.Sources.{refused_after};
     ghost use Rattle.zarr_grids_boxes.specs.Boxes.{product};
     ghost use Rattle.zarr_sharding_codec.specs.BytesMet.{bytes_met};
-    ghost use Rattle.zarr_sharding_codec.specs.PartWriting.{IsOf, PutsAll, UpdatesGroup, UpdatesSlices, insides, positions, put_at, stored_in};
     ghost use Rattle.zarr_sharding_codec.specs.Reading.{ListsRead};
+    ghost use Rattle.zarr_sharding_codec.specs.Updating.{IsKnownOf, PutsAsked, PutsGroup, PutsNumbered, ReplacesSubchunk, number_of, numbers_given, stored_of, total_of};
     ghost use Rattle.zarr_sharding_codec.specs.Views.{inner_of, shard_chain, subchunk_of};
-    ghost use Rattle.zarr_sharding_index.specs.Views.{location_of};
-    ghost use Rattle.zarr_sharding_places.specs.Groups.{no_place};
-    ghost use Rattle.zarr_sharding_places.specs.declared.locating.AskedPlace.{AskedPlace};
     ghost use Rattle.zarr_sharding_places.specs.Pieces.{piece_decoded};
-    ghost use Rattle.zarr_sharding_state.specs.States.{end_of, pairs_in, slice_length};
-    ghost use Rattle.zarr_sharding_state.specs.Views.{is_below};
+    ghost use Rattle.zarr_sharding_index.specs.Known.{pairs_in};
+    ghost use Rattle.zarr_sharding_index.specs.SliceChanges.{is_below};
 
     /// The new slices of the subchunks that the places lie in that are asked for, as
     /// `update_slices` makes them. Where the places are one whole subchunk, its elements take the
@@ -110,26 +104,17 @@ impl<I: ArrayToBytesCodecTraits, X: ArrayToBytesCodecTraits> ShardingCodec<I, X>
             ≡ length (parts_of given.shape.now (subchunk_of self.now)) }
         requires inside { are_inside given.shape.now (asked_of given.indexer) ≡ true }
         requires small { product given.shape.now < 2 ^ 63 }
-        requires low { shard.layout.size < 2 ^ 63 }
-        ensures changes { IsTrue (D.is_honest source.old) → IsOf
-            (location_of shard.entry.layout.location) shard.entry.layout.size
-            (D.contents source.old) (pairs_in shard.entry.known.now) (end_of shard.entry.known.now)
-            → (cells : List Cell) → IsValid (elements_of shard.entry.elements.now).type
-            (payload_of given.entry.bytes)
-            (length (numbers_asked given.entry.shape.now (asked_of given.entry.indexer))) cells
-            → UpdatesSlices (stored_in (I.meaning (inner_of self.now))
-            (I.is_function (inner_of self.now)) (elements_of shard.entry.elements.now)
-            (D.contents source.old) (pairs_in shard.entry.known.now))
-            (put_at given.entry.shape.now (subchunk_of self.now)
-            (numbers_asked given.entry.shape.now (asked_of given.entry.indexer)) cells) result }
+        ensures changes { IsTrue (D.is_honest source.old)
+            → IsKnownOf shard.entry (D.contents source.old)
+            → PutsAsked (stored_of I.ArrayToBytesCodecTraits self.now shard.entry
+            (D.contents source.old)) (subchunk_of self.now) given.entry result }
         ensures below { IfOk result (λ changes. list_all
             (is_below (length (pairs_in shard.entry.known.now))) changes.items ≡ true) }
         ensures refused { D.refused_calls source.new ≡
             refused_after (D.refused_calls source.old) result }
         ensures given { IsTrue (D.is_honest source.old) → D.given_bytes source.new
             ≤ D.given_bytes source.old + bytes_met given.entry.shape.now (subchunk_of self.now)
-            (numbers_asked given.entry.shape.now (asked_of given.entry.indexer))
-            (pairs_in shard.entry.known.now) }
+            (numbers_given given.entry) (pairs_in shard.entry.known.now) (total_of shard.entry) }
         ensures follows { D.follows source.old source.new }
     {
         match self.whole_subchunk(given.shape, given.indexer) {
@@ -171,12 +156,10 @@ impl<I: ArrayToBytesCodecTraits, X: ArrayToBytesCodecTraits> ShardingCodec<I, X>
         }
     }
 
-    /// The new slices of the subchunks that places lie in: each of these is decoded, the elements
-    /// are put at the places in it, and it is encoded anew and whole; one that became all fill gets
-    /// no slice. Nothing is written; each slice that the places lie in is fetched once, and nothing
-    /// else. `Damage` where the slice of one of them isn't decoded; `Codec` where the caller's
-    /// codec refuses; `Size` where an offset, a length or a subchunk is too large; `Source` where
-    /// the source refuses.
+    /// The new slices of the subchunks that places lie in: each of these is decoded, changed, and
+    /// encoded anew and whole; one of fill alone gets no slice. Nothing is written. `Damage` where
+    /// one isn't decoded; `Codec` where a caller's codec refuses; `Size` where an offset, a length
+    /// or a subchunk is too large; `Source` where the source refuses.
     pub fn update_slices<D: BytesPartialDecoderTraits>(
         &self,
         alloc: Global,
@@ -190,24 +173,17 @@ impl<I: ArrayToBytesCodecTraits, X: ArrayToBytesCodecTraits> ShardingCodec<I, X>
             ≡ length (parts_of given.shape.now (subchunk_of self.now)) }
         requires below { list_all (λ n. nat_lt n (product given.shape.now)) given.numbers.now
             ≡ true }
-        requires low { shard.layout.size < 2 ^ 63 }
-        ensures changes { IsTrue (D.is_honest source.old) → IsOf
-            (location_of shard.entry.layout.location) shard.entry.layout.size
-            (D.contents source.old) (pairs_in shard.entry.known.now) (end_of shard.entry.known.now)
-            → (cells : List Cell) → IsValid (elements_of shard.entry.elements.now).type
-            (payload_of given.entry.bytes.now) (length given.entry.numbers.now) cells
-            → UpdatesSlices (stored_in (I.meaning (inner_of self.now))
-            (I.is_function (inner_of self.now)) (elements_of shard.entry.elements.now)
-            (D.contents source.old) (pairs_in shard.entry.known.now))
-            (put_at given.entry.shape.now (subchunk_of self.now) given.entry.numbers.now cells)
-            result }
+        ensures changes { IsTrue (D.is_honest source.old)
+            → IsKnownOf shard.entry (D.contents source.old)
+            → PutsNumbered (stored_of I.ArrayToBytesCodecTraits self.now shard.entry
+            (D.contents source.old)) (subchunk_of self.now) given.entry result }
         ensures below { IfOk result (λ changes. list_all
             (is_below (length (pairs_in shard.entry.known.now))) changes.items ≡ true) }
         ensures refused { D.refused_calls source.new ≡
             refused_after (D.refused_calls source.old) result }
         ensures given { IsTrue (D.is_honest source.old) → D.given_bytes source.new
             ≤ D.given_bytes source.old + bytes_met given.entry.shape.now (subchunk_of self.now)
-            given.entry.numbers.now (pairs_in shard.entry.known.now) }
+            given.entry.numbers.now (pairs_in shard.entry.known.now) (total_of shard.entry) }
         ensures follows { D.follows source.old source.new }
     {
         let shape = given.shape;
@@ -244,29 +220,19 @@ impl<I: ArrayToBytesCodecTraits, X: ArrayToBytesCodecTraits> ShardingCodec<I, X>
         requires fit { fits (I.meaning (inner_of self.now)) (elements_of shard.elements.now).type
             given.shape.now ≡ true }
         requires some { 0 < length given.group.now }
-        requires pair { (get_or given.group.now 0 no_place).subchunk
-            < length (pairs_in shard.known.now) }
-        requires low { shard.layout.size < 2 ^ 63 }
-        ensures change { IsTrue (D.is_honest source.old) → IsOf
-            (location_of shard.entry.layout.location) shard.entry.layout.size
-            (D.contents source.old) (pairs_in shard.entry.known.now) (end_of shard.entry.known.now)
-            → (cells : List Cell) (count : ℕ) → IsValid (elements_of shard.entry.elements.now).type
-            (payload_of given.entry.bytes.now) count cells
-            → list_all (λ n. nat_lt n count) (positions given.entry.group.now) ≡ true
-            → list_all (λ n. nat_lt n (product given.entry.shape.now))
-            (insides given.entry.group.now) ≡ true
-            → UpdatesGroup (stored_in (I.meaning (inner_of self.now))
-            (I.is_function (inner_of self.now)) (elements_of shard.entry.elements.now)
-            (D.contents source.old) (pairs_in shard.entry.known.now)) given.entry.shape.now
-            (get_or given.entry.group.now 0 no_place).subchunk given.entry.group.now cells result }
+        requires pair { number_of given.group.now < length (pairs_in shard.known.now) }
+        ensures change { IsTrue (D.is_honest source.old)
+            → IsKnownOf shard.entry (D.contents source.old)
+            → PutsGroup (stored_of I.ArrayToBytesCodecTraits self.now shard.entry
+            (D.contents source.old)) given.entry result }
         ensures number { IfOk result
-            (λ change. change.number ≡ (get_or given.entry.group.now 0 no_place).subchunk) }
+            (λ change. change.number ≡ number_of given.entry.group.now) }
         ensures refused { D.refused_calls source.new ≡
             refused_after (D.refused_calls source.old) result }
         ensures given { IsTrue (D.is_honest source.old) → D.given_bytes source.new
-            ≤ D.given_bytes source.old
-            + slice_length (get_or (pairs_in shard.entry.known.now)
-            (get_or given.entry.group.now 0 no_place).subchunk absent_pair) }
+            ≤ D.given_bytes source.old + slice_length (total_of shard.entry)
+            (get_or (pairs_in shard.entry.known.now) (number_of given.entry.group.now)
+            absent_pair) }
         ensures follows { D.follows source.old source.new }
     {
         let number = given.group[0].subchunk as usize;
@@ -297,24 +263,15 @@ impl<I: ArrayToBytesCodecTraits, X: ArrayToBytesCodecTraits> ShardingCodec<I, X>
         requires fit { fits (I.meaning (inner_of self.now)) (elements_of shard.elements.now).type
             given.subchunk.shape.now ≡ true }
         requires pair { given.subchunk.number < length (pairs_in shard.known.now) }
-        requires low { shard.layout.size < 2 ^ 63 }
-        ensures change { IsTrue (D.is_honest source.old) → IsOf
-            (location_of shard.entry.layout.location) shard.entry.layout.size
-            (D.contents source.old) (pairs_in shard.entry.known.now) (end_of shard.entry.known.now)
-            → (cells : List Cell) (group : List AskedPlace)
-            → IsValid (elements_of shard.entry.elements.now).type (payload_of given.entry.bytes)
-            (product given.entry.subchunk.shape.now) cells
-            → PutsAll given.entry.subchunk.shape.now (elements_of shard.entry.elements.now).fill
-            group cells
-            → UpdatesGroup (stored_in (I.meaning (inner_of self.now))
-            (I.is_function (inner_of self.now)) (elements_of shard.entry.elements.now)
-            (D.contents source.old) (pairs_in shard.entry.known.now))
-            given.entry.subchunk.shape.now given.entry.subchunk.number group cells result }
+        ensures change { IsTrue (D.is_honest source.old)
+            → IsKnownOf shard.entry (D.contents source.old)
+            → ReplacesSubchunk (stored_of I.ArrayToBytesCodecTraits self.now shard.entry
+            (D.contents source.old)) given.entry result }
         ensures number { IfOk result (λ change. change.number ≡ given.entry.subchunk.number) }
         ensures refused { D.refused_calls source.new ≡
             refused_after (D.refused_calls source.old) result }
         ensures given { IsTrue (D.is_honest source.old) → D.given_bytes source.new
-            ≤ D.given_bytes source.old + slice_length
+            ≤ D.given_bytes source.old + slice_length (total_of shard.entry)
             (get_or (pairs_in shard.entry.known.now) given.entry.subchunk.number absent_pair) }
         ensures follows { D.follows source.old source.new }
     {
@@ -351,10 +308,8 @@ impl<I: ArrayToBytesCodecTraits, X: ArrayToBytesCodecTraits> ShardingCodec<I, X>
         requires fit { fits (I.meaning (inner_of self.now)) (elements_of shard.elements.now).type
             subchunk.shape.now ≡ true }
         requires below { subchunk.number < length (pairs_in shard.known.now) }
-        requires low { shard.layout.size < 2 ^ 63 }
-        ensures elements { IsTrue (D.is_honest source.old) → IsOf
-            (location_of shard.entry.layout.location) shard.entry.layout.size
-            (D.contents source.old) (pairs_in shard.entry.known.now) (end_of shard.entry.known.now)
+        ensures elements { IsTrue (D.is_honest source.old)
+            → IsKnownOf shard.entry (D.contents source.old)
             → ListsRead (elements_of shard.entry.elements.now) subchunk.entry.shape.now
             (piece_decoded (I.meaning (inner_of self.now)) (elements_of shard.entry.elements.now)
             (unwrap_or (D.contents source.old) []) subchunk.entry.shape.now
@@ -362,13 +317,13 @@ impl<I: ArrayToBytesCodecTraits, X: ArrayToBytesCodecTraits> ShardingCodec<I, X>
         ensures refused { D.refused_calls source.new ≡
             refused_after (D.refused_calls source.old) result }
         ensures given { IsTrue (D.is_honest source.old) → D.given_bytes source.new
-            ≤ D.given_bytes source.old + slice_length
+            ≤ D.given_bytes source.old + slice_length (total_of shard.entry)
             (get_or (pairs_in shard.entry.known.now) subchunk.entry.number absent_pair) }
         ensures follows { D.follows source.old source.new }
     {
         let shape = subchunk.shape;
         let known = shard.known;
-        match known.retrieve_subchunk_encoded(alloc, source, shard.layout, subchunk.number) {
+        match known.retrieve_subchunk_encoded(alloc, source, subchunk.number) {
             Ok(Some(slice)) => {
                 self.inner_codecs
                     .decode_in_order(alloc, slice, shard.elements, shape)

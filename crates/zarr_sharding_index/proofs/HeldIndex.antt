@@ -8,10 +8,10 @@ use Rattle.zarr_codecs_meaning.specs.Types.{uint64, zero_filled}
 use Rattle.zarr_codecs_meaning.proofs.Lists.{some_same}
 use Rattle.zarr_codecs_arrays.specs.declared.error.CodecError.{CodecError}
 use Rattle.zarr_codecs_arrays.specs.declared.error.CodecError.TheVariants as error
-use Rattle.zarr_sharding_index.specs.Held.{FetchesIndex, FetchesSlice, IsFetched, IsIndexHeld}
+use Rattle.zarr_sharding_index.specs.HeldIndex.{FetchesIndex, FetchesSlice, IsFetched, IsIndexHeld}
 use Rattle.zarr_sharding_index.specs.Stored.{IsIndexRead}
 use Rattle.zarr_sharding_index.specs.Present.{all_pairs}
-use Rattle.zarr_sharding_index.specs.declared.held.FetchedIndex.{FetchedIndex}
+use Rattle.zarr_sharding_index.specs.declared.fetched_index.FetchedIndex.{FetchedIndex}
 
 -- the bytes of a pair that ends within the value
 slice_within : (value bytes : List ℕ) (pair : Pair) → pair.0 + pair.1 ≤ length value → slice_at value pair ≡ Some bytes → take pair.1 (drop pair.0 value) ≡ bytes

@@ -6,3 +6,12 @@ pub mod HeldIndex
 pub mod Sizes
 pub mod Listed
 pub mod Searched
+pub mod GivenSlices
+pub mod Counts
+pub mod Ranges
+pub mod OnlySlice
+pub mod Stands
+pub mod Opened
+pub mod Lying
+pub mod Appending
+pub mod Reopened

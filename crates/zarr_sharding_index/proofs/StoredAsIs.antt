@@ -43,11 +43,12 @@ written order exact shape value pairs is as_is fit many =
     let chain = bytes order in
     let fits_it = (and_parts (fits chain uint64 shape) (has_index_size chain shape) fit).0 in
     let are : AreCells (zero_filled uint64) shape (pair_cells pairs) = record { fill = refl; values = pairs_are_values pairs; whole = length-pair_cells pairs ∙ sym many } in
-    let made : encoded chain (zero_filled uint64) shape (pair_cells pairs) ≡ Some value = ap Some (in_memory_order order as_is pairs ∙ sym is) in
+    let whole : encoded chain (zero_filled uint64) shape (pair_cells pairs) ≡ Some value = ap Some (in_memory_order order as_is pairs ∙ sym is) in
     record {
-      encodes = λ _. made;
-      reads_back = λ keeps. stands_decoded chain (zero_filled uint64) shape value (pair_cells pairs) tt fits_it keeps are ((laws_of chain tt).stands (zero_filled uint64) shape value (pair_cells pairs) fits_it (inl keeps) are made);
-      sized = fixed_long (representation_of chain uint64 shape) (index_size chain shape) (length value) (encoded_size chain (zero_filled uint64) shape value (pair_cells pairs) tt fits_it are made) (index_below chain shape fit).0;
+      made = whole;
+      encodes = λ _. whole;
+      reads_back = λ keeps. stands_decoded chain (zero_filled uint64) shape value (pair_cells pairs) tt fits_it keeps are ((laws_of chain tt).stands (zero_filled uint64) shape value (pair_cells pairs) fits_it (inl keeps) are whole);
+      sized = fixed_long (representation_of chain uint64 shape) (index_size chain shape) (length value) (encoded_size chain (zero_filled uint64) shape value (pair_cells pairs) tt fits_it are whole) (index_below chain shape fit).0;
     }
 
 -- the bytes of pairs

@@ -12,6 +12,7 @@ use Rattle.zarr_codecs_meaning.specs.Encoding.{Pair, encoded, index_size, pair_c
 use Rattle.zarr_codecs_meaning.specs.Fits.{fits, fixed_of, has_index_size, is_some_below, is_size_as, representation_of, size_of}
 use Rattle.zarr_codecs_meaning.proofs.Fitting.{size_is_below}
 use Rattle.zarr_codecs_meaning.specs.Laws.{AreCells, IsLawfulChain}
+use Rattle.zarr_codecs_meaning.specs.Making.{IsMadeOf}
 use Rattle.zarr_codecs_meaning.specs.Numbers.{digits, number, word}
 use Rattle.zarr_codecs_meaning.specs.Payloads.{Payload, cells_in}
 use Rattle.zarr_codecs_meaning.specs.Refusals.{CodecRefuses, PassesIndex}
@@ -67,14 +68,15 @@ fixed_long chains.BytesRepresentation.unbounded_size size long h is = cc
 pub index_written : (index : Chain) (exact : Bool) (shape : List ℕ) (pairs : List Pair) (payload : Payload) (result : Result (Vec ℕ Global) CodecError) → IsLawfulChain index → index_fits index shape ≡ true → product shape ≡ 2 * length pairs
     → 16 * length pairs < 2 ^ 63 → cells_in uint64 payload ≡ Some (pair_cells pairs) → Encodes (coded index (zero_filled uint64) shape) exact payload result → WritesIndex index exact shape pairs result
 index_written index exact shape pairs payload (Ok value) lawful fit many room lists given =
-    let made = given.1 in
-    let same : given.0 ≡ pair_cells pairs = some_same (sym made.valid.is.lists ∙ lists) in
+    let done = given.1 in
+    let same : given.0 ≡ pair_cells pairs = some_same (sym done.valid.is.lists ∙ lists) in
     let are : AreCells (zero_filled uint64) shape (pair_cells pairs) = record { fill = refl; values = pairs_are_values pairs; whole = length-pair_cells pairs ∙ sym many } in
     let known = index_below index shape fit in
     record {
-      encodes = λ is. subst (λ cells. encoded index (zero_filled uint64) shape cells ≡ Some value.items) same (made.encodes is);
-      reads_back = λ keeps. stands_decoded index (zero_filled uint64) shape value.items (pair_cells pairs) lawful made.fit keeps are (subst (λ cells. Stands index (zero_filled uint64) shape value.items cells) same (made.stands keeps));
-      sized = fixed_long (representation_of index uint64 shape) (index_size index shape) (length value.items) made.sized known.0;
+      made = subst (λ cells. IsMadeOf index (zero_filled uint64) shape cells value.items) same done.made;
+      encodes = λ is. subst (λ cells. encoded index (zero_filled uint64) shape cells ≡ Some value.items) same (done.encodes is);
+      reads_back = λ keeps. stands_decoded index (zero_filled uint64) shape value.items (pair_cells pairs) lawful done.fit keeps are (subst (λ cells. Stands index (zero_filled uint64) shape value.items cells) same (done.stands keeps));
+      sized = fixed_long (representation_of index uint64 shape) (index_size index shape) (length value.items) done.sized known.0;
     }
 index_written index exact shape pairs payload (Err error.Fit) lawful fit many room lists given =
     let is = (and_parts (fits index uint64 shape) (has_index_size index shape) fit).0 in cc

@@ -1,53 +1,64 @@
--- The index of a shard as the shard holds it.
-use Rattle.std.specs.Prelude.{◌≡◌, ℕ, ◌*◌, List, length, MatchOption, Option, None, Some, Vec, Result, Ok, Err}
-use Rattle.std.specs.declared.alloc.Global.{Global}
-use Rattle.zarr_grids_boxes.specs.Boxes.{product}
+-- What is known of a shard in a source.
+use Rattle.std.specs.Prelude.{◌≡◌, ℕ, ◌+◌, List, [], length, replicate, Option, None, Some, Bool, true, ◌&&◌, ◌||◌, nat_le}
+use Rattle.std.specs.List.{list_all}
 use Rattle.zarr_codecs_meaning.specs.Chains.{Chain, Location}
-use Rattle.zarr_codecs_meaning.specs.Decoding.{decoded, pairs_in, slice_at}
-use Rattle.zarr_codecs_meaning.specs.Encoding.{Pair, index_size}
-use Rattle.zarr_codecs_meaning.specs.Types.{uint64, zero_filled}
-use Rattle.zarr_codecs_arrays.specs.declared.error.CodecError.{CodecError}
-use Rattle.zarr_codecs_arrays.specs.declared.error.CodecError.TheVariants as error
-use Rattle.zarr_sharding_index.specs.declared.held.FetchedIndex.{FetchedIndex}
-use Rattle.zarr_sharding_index.specs.declared.index.ShardIndex.{ShardIndex}
-use Rattle.zarr_sharding_index.specs.Present.{all_pairs}
-use Rattle.zarr_sharding_index.specs.Views.{pairs_of}
+use Rattle.zarr_codecs_meaning.specs.Chains.Location.{at_start, at_end}
+use Rattle.zarr_codecs_meaning.specs.Decoding.{decoded, is_absent}
+use Rattle.zarr_codecs_meaning.specs.Encoding.{Pair, Piece, absent_pair, base_of, index_size}
+use Rattle.zarr_codecs_meaning.specs.Standing.{IsLaidOut, PiecesStand}
+use Rattle.zarr_codecs_meaning.specs.Types.{Cell, uint64, zero_filled}
+use Rattle.zarr_sharding_changes.specs.Compaction.{data_in}
+use Rattle.zarr_sharding_index.specs.HeldIndex.{held_pairs}
 
--- the pairs of the index of a shard, which a chain decodes from as many bytes as an index of this shape has; None where the shard has fewer bytes, or they are not decoded
-abbrev pub held_pairs : Chain → Location → List ℕ → List ℕ → Option (List Pair)
-held_pairs index location shape value = pairs_in (decoded index (zero_filled uint64) shape) location (index_size index shape) value
+-- how the index of a shard is coded: its chain, whether what that makes depends on the pairs alone, where the index stands, and its shape
+pub record IndexCoding : Type 0 where
+  pub chain : Chain
+  pub exact : Bool
+  pub location : Location
+  pub shape : List ℕ
 
--- the index of a shard
-pub record IsIndexHeld (index : Chain) (location : Location) (shape value : List ℕ) (pairs : List Pair) : Type 0 where
-  pub is : held_pairs index location shape value ≡ Some pairs
-  pub many : product shape ≡ 2 * length pairs
+-- the same, put together
+abbrev pub index_coding : Chain → Bool → Location → List ℕ → IndexCoding
+index_coding chain exact location shape = record { chain = chain; exact = exact; location = location; shape = shape }
 
--- the index of a shard, or why there is none
-abbrev pub DecodesIndex : Chain → Location → List ℕ → List ℕ → Result ShardIndex CodecError → Type 0
-DecodesIndex index location shape value (Ok found) = IsIndexHeld index location shape value (pairs_of found)
-DecodesIndex index location shape value (Err error.Damage) = held_pairs index location shape value ≡ None
-DecodesIndex index location shape value (Err error.Memory) = Unit {0}
-DecodesIndex index location shape value (Err e) = ⊥
+-- what a source holds, and what is known of it: the pairs of the shard's index, and where its data part ends
+pub record Held : Type 0 where
+  pub contents : Option (List ℕ)
+  pub pairs : List Pair
+  pub end : ℕ
 
--- the index of the shard that a source holds and how many bytes the shard has, or nothing where it holds none
-abbrev pub IsFetched : Chain → Location → List ℕ → Option (List ℕ) → Option FetchedIndex → Type 0
-IsFetched index location shape None None = Unit {0}
-IsFetched index location shape None (Some found) = ⊥
-IsFetched index location shape (Some value) None = ⊥
-IsFetched index location shape (Some value) (Some found) = IsIndexHeld index location shape value (all_pairs found.pairs) × (found.total ≡ length value)
+-- the same, put together
+abbrev pub held_as : Option (List ℕ) → List Pair → ℕ → Held
+held_as contents pairs end = record { contents = contents; pairs = pairs; end = end }
 
--- what is fetched of the index of the shard that a source holds, or why nothing is
-abbrev pub FetchesIndex : Chain → Location → List ℕ → Option (List ℕ) → Result (Option FetchedIndex) CodecError → Type 0
-FetchesIndex index location shape contents (Ok found) = IsFetched index location shape contents found
-FetchesIndex index location shape contents (Err error.Damage) = MatchOption contents ⊥ (λ value. held_pairs index location shape value ≡ None)
-FetchesIndex index location shape contents (Err error.Source) = Unit {0}
-FetchesIndex index location shape contents (Err error.Memory) = Unit {0}
-FetchesIndex index location shape contents (Err e) = ⊥
+-- whether no subchunk is present
+abbrev pub are_absent : List Pair → Bool
+are_absent pairs = list_all is_absent pairs
 
--- what is fetched of a pair of a value, or why nothing is: it ends past the end, or the source refuses
-abbrev pub FetchesSlice : List ℕ → Pair → Result (Vec ℕ Global) CodecError → Type 0
-FetchesSlice value pair (Ok bytes) = slice_at value pair ≡ Some bytes.items
-FetchesSlice value pair (Err error.Damage) = slice_at value pair ≡ None
-FetchesSlice value pair (Err error.Source) = Unit {0}
-FetchesSlice value pair (Err error.Memory) = Unit {0}
-FetchesSlice value pair (Err e) = ⊥
+-- whether a pair is absent, or lies in a data part from a base to an end
+abbrev pub lies_between : ℕ → ℕ → Pair → Bool
+lies_between base end pair = is_absent pair || (nat_le base pair.0 && nat_le (pair.0 + pair.1) end)
+
+-- what is known of a shard once it is opened: its pairs, each of which lies in the data part, and where that ends. Where there is no value, each subchunk is absent, and the data part is empty
+abbrev pub IsOpened : Chain → Location → List ℕ → ℕ → Option (List ℕ) → List Pair → ℕ → Type 0
+IsOpened index location shape count None pairs end = (pairs ≡ replicate count absent_pair) × (end ≡ base_of location (index_size index shape))
+IsOpened index location shape count (Some value) pairs end =
+    let size = index_size index shape in
+    (held_pairs index location shape value ≡ Some pairs) × (end ≡ base_of location size + length (data_in location size value)) × (list_all (lies_between (base_of location size) end) pairs ≡ true)
+
+-- a value is an index of pairs and a data part; where there is no value, each subchunk is absent, and the data part is empty
+abbrev pub IsHeld : Chain → Location → List ℕ → Option (List ℕ) → List Pair → List ℕ → Type 0
+IsHeld index location shape None pairs «data» = («data» ≡ []) × (are_absent pairs ≡ true)
+IsHeld index location shape (Some value) pairs «data» = IsLaidOut (decoded index (zero_filled uint64) shape) location (index_size index shape) value pairs «data»
+
+-- a shard's pairs and its data part, which ends there, stand for the pieces
+pub record HoldsPieces (inner : List ℕ → List ℕ → List Cell → Type 0) (fill : Cell) (index : Chain) (location : Location) (shape : List ℕ) (pieces : List Piece) (contents : Option (List ℕ)) (pairs : List Pair) (end : ℕ) : Type 0 where
+  pub «data» : List ℕ
+  pub held : IsHeld index location shape contents pairs «data»
+  pub ends : end ≡ base_of location (index_size index shape) + length «data»
+  pub stand : PiecesStand inner fill (base_of location (index_size index shape)) «data» pieces pairs
+
+-- how many bytes a shard has whose data part ends there
+abbrev pub shard_length : Location → ℕ → ℕ → ℕ
+shard_length at_start size end = end
+shard_length at_end size end = end + size

@@ -1,5 +1,12 @@
 pub mod Views
 pub mod Stored
-pub mod Held
+pub mod HeldIndex
 pub mod Listed
 pub mod Present
+pub mod Held
+pub mod Written
+pub mod SliceChanges
+pub mod Laws
+pub mod Known
+pub mod Opened
+pub mod Calls

@@ -6,6 +6,7 @@ use Rattle.zarr_codecs_meaning.specs.Chains.{Chain}
 use Rattle.zarr_codecs_meaning.specs.Decoding.{decoded, pairs_of_cells}
 use Rattle.zarr_codecs_meaning.specs.Encoding.{Pair, encoded, index_size, pair_cells}
 use Rattle.zarr_codecs_meaning.specs.Fits.{fits, has_index_size, is_lossless}
+use Rattle.zarr_codecs_meaning.specs.Making.{IsMadeOf}
 use Rattle.zarr_codecs_meaning.specs.Refusals.{CodecRefuses, PassesIndex}
 use Rattle.zarr_codecs_meaning.specs.Types.{uint64, zero_filled}
 use Rattle.zarr_codecs_traits.specs.Capabilities.{encodes_as_is}
@@ -14,7 +15,7 @@ use Rattle.zarr_codecs_arrays.specs.declared.error.CodecError.TheVariants as err
 use Rattle.zarr_sharding_index.specs.declared.index.ShardIndex.{ShardIndex}
 use Rattle.zarr_sharding_index.specs.Views.{pairs_of}
 
--- whether a chain can write an index of this shape: it fits, and makes fewer than 2^63 bytes, always as many; the numbers of the index have fewer as well
+-- whether a chain can write an index of this shape: it fits, and makes fewer than 2^63 bytes, always as many, no codec on the way more; the numbers of the index have fewer as well
 abbrev pub index_fits : Chain → List ℕ → Bool
 index_fits index shape = fits index uint64 shape && has_index_size index shape
 
@@ -23,8 +24,9 @@ abbrev pub SizesIndex : Chain → List ℕ → Option ℕ → Type 0
 SizesIndex index shape None = index_fits index shape ≡ false
 SizesIndex index shape (Some size) = (index_fits index shape ≡ true) × (size ≡ index_size index shape)
 
--- the bytes that a chain makes of an index: what encoding its pairs means, where that is a function; and bytes of which the pairs are read again, where every bit is kept
+-- the bytes that a chain makes of an index: bytes that it may make of the pairs, and what encoding these means, where that is a function; the pairs are read again of them, where every bit is kept
 pub record IsIndexWritten (index : Chain) (exact : Bool) (shape : List ℕ) (pairs : List Pair) (value : List ℕ) : Type 0 where
+  pub made : IsMadeOf index (zero_filled uint64) shape (pair_cells pairs) value
   pub encodes : IsTrue exact → encoded index (zero_filled uint64) shape (pair_cells pairs) ≡ Some value
   pub reads_back : is_lossless index uint64 ≡ true → decoded index (zero_filled uint64) shape value ≡ Some (pair_cells pairs)
   pub sized : length value ≡ index_size index shape

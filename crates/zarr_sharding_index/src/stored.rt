@@ -16,9 +16,9 @@ use zarr_codecs_types::data_type::uint64;
 use zarr_grids_boxes::walk::count_places;
 
 /// How many bytes a codec makes of an index of this shape. `None` where it doesn't suit the index,
-/// or doesn't make fewer than 2^63 bytes of each, always as many, or where the index's numbers have
-/// 2^63 bytes or more. `Err` where an allocation failed, and where a caller's bytes codec inside
-/// tells that it makes 2^63 bytes or more of the index.
+/// or doesn't make fewer than 2^63 bytes of each, always as many, where a codec inside it tells
+/// 2^63 bytes or more of the index, and where the index's numbers have as many. `Err` only where an
+/// allocation failed.
 pub fn index_size<X: ArrayToBytesCodecTraits>(
     alloc: Global,
     codec: &X,
@@ -39,6 +39,7 @@ pub fn index_size<X: ArrayToBytesCodecTraits>(
         }
         Ok(_) => Ok(None),
         Err(CodecError::Fit) => Ok(None),
+        Err(CodecError::Size) => Ok(None),
         Err(_) => Err(AllocError),
     }
 }

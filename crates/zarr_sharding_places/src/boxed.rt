@@ -26,7 +26,7 @@ pub enum BoxedElements {
 }
 
 impl BoxedElements {
-    /// So many fill values. `Err` only where an allocation failed.
+    /// So many fill values, whatever size they have. `Err` only where an allocation failed.
     pub fn new_fill_value(
         alloc: Global,
         count: usize,
@@ -39,7 +39,7 @@ impl BoxedElements {
             let placed = PlacedElements::new_fill_value(alloc, count, elements)?;
             return Ok(BoxedElements::Placed(placed));
         }
-        match ArrayBytes::new_fill_value(alloc, elements, count as u64) {
+        match ArrayBytes::fill_values(alloc, elements, count) {
             Ok(ArrayBytes::Fixed(bytes)) => Ok(BoxedElements::Fixed(bytes)),
             _ => Err(AllocError),
         }

@@ -32,14 +32,12 @@ impl PlacedElements {
             (replicate count (elements_of elements.now).fill)) }
     {
         let numbers = vec![in alloc; 0u64; count]?;
-        match ArrayBytes::new_fill_value(alloc, elements, 1) {
-            Ok(came) => Ok(PlacedElements {
-                came,
-                count: 1,
-                numbers,
-            }),
-            Err(_) => Err(AllocError),
-        }
+        let came = ArrayBytes::fill_values(alloc, elements, 1)?;
+        Ok(PlacedElements {
+            came,
+            count: 1,
+            numbers,
+        })
     }
 
     /// The elements after others were put at the places with these numbers, one for each of them.

@@ -1,5 +1,4 @@
 //! A shard behind a lock, with bytes typed in by hand.
-use crate::samples::{NINE_PUT, ONE_OF_FOUR, Shards, are, bytes_of, elements, is, shards};
 use std::alloc::Global;
 use std::marker::Sync;
 use std::sync::Wait;
@@ -8,6 +7,7 @@ use zarr_codecs::{
     ArrayBytes, BytesCodec, CodecError, CodecOptions, Elements, Indexer, MemorySource, WholeArray,
 };
 use zarr_sharding::{ShardState, ShardingIndexLocation, ShardingPartialEncoder};
+use zarr_sharding_samples::{NINE_PUT, ONE_OF_FOUR, Shards, are, bytes_of, elements, is, shards};
 
 type Encoder<'a> = ShardingPartialEncoder<'a, BytesCodec, BytesCodec, MemorySource>;
 

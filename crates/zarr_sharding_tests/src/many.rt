@@ -1,5 +1,4 @@
 //! An index of many subchunks, few of which are present.
-use crate::samples::{elements, shards};
 use std::alloc::Global;
 use std::marker::Sync;
 use std::thread::Threads;
@@ -7,6 +6,7 @@ use zarr_codecs::{
     ArrayBytes, ArrayToBytesCodecTraits, CodecError, CodecOptions, MemorySource, WholeArray,
 };
 use zarr_sharding::{ShardingIndexLocation, ShardingPartialDecoder};
+use zarr_sharding_samples::{elements, shards};
 
 /// The shard of a million subchunks of one cell each, of which every hundred thousandth is present.
 fn million(rt: &(impl Threads + Sync), alloc: Global) -> Result<Vec<u8>, CodecError> {

@@ -1,14 +1,12 @@
-use Rattle.std.proofs.Common.{◌≡◌, ◌∙◌, ◌<◌, ◌&&◌, ℕ, List, sym, subst, ap, length, true, rules}
+use Rattle.std.proofs.Common.{◌≡◌, ◌∙◌, sym, subst, ap, length}
 use Rattle.std.proofs.lemmas.Result.{IfOk-weaker}
 use Rattle.zarr_grids_boxes.specs.Boxes.{Region, product, is_in_box}
 use Rattle.zarr_grids_boxes.specs.Cuts.{overlapped, relative}
 use Rattle.zarr_grids_boxes.specs.Subsets.{region_of}
 use Rattle.zarr_grids_boxes.proofs.Places.{both}
-use Rattle.zarr_codecs_meaning.specs.Types.{Cell, IsTooLarge}
-use Rattle.zarr_codecs_arrays.specs.Outcomes.{IsCounted}
+use Rattle.zarr_codecs_meaning.specs.Types.{IsTooLarge}
 use Rattle.zarr_codecs_arrays.specs.Views.{payload_of, elements_of}
-use Rattle.zarr_array_elements.specs.Boxes.{cells_of, IsWithin, ArePutOver, cells_at}
-use Rattle.zarr_array_elements.specs.Views.{AreNumbered, cells_numbered}
+use Rattle.zarr_array_elements.specs.Boxes.{cells_of, ArePutOver, cells_at}
 use Rattle.zarr_array_elements.proofs.ByNumber.{put_taken}
 use Rattle.zarr_array_elements.proofs.Meeting.{IsMeeting, meeting, starts_alike}
 use Rattle.zarr_array_elements.proofs.Shared.{shared_smaller, large_grows}
@@ -44,34 +42,24 @@ take_out-requires-clause-inside c = λ place t.
     let meet = meets region from (region_of c.in-Ok.shared) c.requires.rank c.in-Ok.ensures.made (meeting from region c.requires.shares) in
     (both (is_in_box from.start from.shape place) (is_in_box region.start region.shape place) (sym (meet.both place) ∙ t)).0
 
-pub put-requires-clause-shown : goal.put-requires-clause-shown
-put-requires-clause-shown c =
-    let elements = elements_of c.args.elements.now in
-    let region : Region = region_of c.args.region.now in
-    let total : c.unwrap-count.result ≡ product region.shape = search rules in
-    subst (λ n. AreNumbered elements n c.in_ok-whole.whole) total c.in_ok-whole.ensures.shown
-
-pub put-requires-clause-rank : goal.put-requires-clause-rank
-put-requires-clause-rank c =
+pub put_within-requires-clause-rank : goal.put_within-requires-clause-rank
+put_within-requires-clause-rank c =
     let region : Region = region_of c.args.region.now in
     let from : Region = region_of c.args.from.now in
     ap (λ (r : Region). length r.start) c.in-Ok.ensures.made ∙ (starts_alike from region c.requires.rank ∙ c.requires.rank)
 
-pub put-requires-clause-some : goal.put-requires-clause-some
-put-requires-clause-some c =
+pub put_within-requires-clause-some : goal.put_within-requires-clause-some
+put_within-requires-clause-some c =
     let region : Region = region_of c.args.region.now in
     let from : Region = region_of c.args.from.now in
     (meets region from (region_of c.in-Ok.shared) c.requires.rank c.in-Ok.ensures.made (meeting from region c.requires.shares)).some
 
-pub put-requires-clause-inside : goal.put-requires-clause-inside
-put-requires-clause-inside c = λ place t.
+pub put_within-requires-clause-inside : goal.put_within-requires-clause-inside
+put_within-requires-clause-inside c = λ place t.
     let region : Region = region_of c.args.region.now in
     let from : Region = region_of c.args.from.now in
     let meet = meets region from (region_of c.in-Ok.shared) c.requires.rank c.in-Ok.ensures.made (meeting from region c.requires.shares) in
     (both (is_in_box from.start from.shape place) (is_in_box region.start region.shape place) (sym (meet.both place) ∙ t)).1
-
-pub returns-clause-counted : goal.returns-clause-counted
-returns-clause-counted c = c.gather.ensures.counted (product c.args.region.now.shape.items) c.in_ok-made.ensures.shown
 
 pub returns-clause-cells : goal.returns-clause-cells
 returns-clause-cells c =
@@ -83,8 +71,5 @@ returns-clause-cells c =
     let given = cells_of elements.type (payload_of c.args.given.now) in
     let part = cells_of elements.type (payload_of c.in_ok-part.part) in
     let before = cells_of elements.type (payload_of c.args.before) in
-    let made = cells_numbered elements c.in_ok-made.made in
-    let put : ArePutOver elements.fill (cells_at shared part) (cells_at region before) made = subst (λ (cells : List Cell). ArePutOver elements.fill (cells_at shared part) (cells_at region cells) made) c.in_ok-whole.ensures.cells c.in_ok-made.ensures.cells in
-    let all = put_taken elements.fill region from shared given part before made meet.both c.in_ok-part.ensures.cells put in
-    IfOk-weaker c.gather.result (λ bytes. cells_of elements.type (payload_of bytes) ≡ made) (λ bytes. ArePutOver elements.fill (cells_at from given) (cells_at region before) (cells_of elements.type (payload_of bytes)))
-    (λ bytes h. subst (ArePutOver elements.fill (cells_at from given) (cells_at region before)) (sym h) all) (c.gather.ensures.cells (product region.shape) c.in_ok-made.ensures.shown)
+    IfOk-weaker c.put_within.result (λ made. ArePutOver elements.fill (cells_at shared part) (cells_at region before) (cells_of elements.type (payload_of made))) (λ made. ArePutOver elements.fill (cells_at from given) (cells_at region before) (cells_of elements.type (payload_of made)))
+    (λ made h. put_taken elements.fill region from shared given part before (cells_of elements.type (payload_of made)) meet.both c.in_ok-part.ensures.cells h) c.put_within.ensures.cells

@@ -2,7 +2,7 @@ use denote.Exit.{no}
 use denote.Param.Send.{IsSync, arg_sync, param_sync, sendable}
 use Rattle.std.proofs.Crossing.{crosses}
 use Rattle.zarr_calls_kinds.specs.contracts.byte_codecs.TestCodec as codec
-use Rattle.zarr_sharding_arrays.proofs.Crossing.{chain_sync}
+use Rattle.zarr_sharding_chains.proofs.Crossing.{chain_sync}
 use Rattle.zarr_calls.proofs.chains.answer.Goals as goal
 
 -- the chain of an array may be lent to other threads, where codecs are those of the tests

@@ -2,7 +2,8 @@ use Rattle.std.proofs.Common.{◌∙◌, ◌<◌, ◌^◌, ap, inl, sym, subst}
 use Rattle.zarr_grids_boxes.specs.Boxes.{product}
 use Rattle.zarr_grids_boxes.specs.Subsets.{region_of}
 use Rattle.zarr_codecs_arrays.specs.Views.{elements_of}
-use Rattle.zarr_codecs_bytes.proofs.PartDecoding.{at_least, larger_too, fills_part}
+use Rattle.zarr_codecs_regions.proofs.FillValues.{fills_part, larger_too}
+use Rattle.zarr_codecs_bytes.proofs.PartDecoding.{at_least}
 use Rattle.zarr_codecs_bytes.proofs.partial.fill_part.Goals as goal
 
 pub returns-in_default-clause-part : goal.returns-in_default-clause-part

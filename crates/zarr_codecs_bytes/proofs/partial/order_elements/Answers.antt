@@ -10,7 +10,8 @@ use Rattle.zarr_codecs_bytes.specs.Orders.{all_ordered}
 use Rattle.zarr_codecs_bytes.specs.Parts.{part_width}
 use Rattle.zarr_codecs_bytes.specs.Views.{order_of, bytes_chain}
 use Rattle.zarr_codecs_bytes.proofs.Decoding.{IsValid-at, Validates-at}
-use Rattle.zarr_codecs_bytes.proofs.PartDecoding.{IsPartRead, nothing, at_least, larger_too, uncounted_part, part_valid, part_damaged}
+use Rattle.zarr_codecs_regions.proofs.FillValues.{larger_too}
+use Rattle.zarr_codecs_bytes.proofs.PartDecoding.{IsPartRead, nothing, at_least, uncounted_part, part_valid, part_damaged}
 use Rattle.zarr_codecs_bytes.proofs.partial.order_elements.Goals as goal
 
 pub returns-in_default-clause-part : goal.returns-in_default-clause-part

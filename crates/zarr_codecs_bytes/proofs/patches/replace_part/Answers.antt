@@ -11,7 +11,8 @@ use Rattle.zarr_codecs_traits.specs.Arrays.{coded}
 use Rattle.zarr_codecs_traits.specs.PartEncoding.{EncodesPart}
 use Rattle.zarr_codecs_bytes.specs.Views.{bytes_chain, order_of}
 use Rattle.zarr_codecs_bytes.proofs.Decoding.{IsValid-at}
-use Rattle.zarr_codecs_bytes.proofs.PartDecoding.{at_least, larger_too}
+use Rattle.zarr_codecs_regions.proofs.FillValues.{larger_too}
+use Rattle.zarr_codecs_bytes.proofs.PartDecoding.{at_least}
 use Rattle.zarr_codecs_bytes.proofs.PartWriting.{given_cells, part_encodes}
 use Rattle.zarr_codecs_bytes.proofs.patches.replace_part.Goals as goal
 

@@ -1,9 +1,10 @@
-use Rattle.std.proofs.Common.{◌≡◌, ◌∙◌, ap, arith, option_map, subst, sym, IsTrue, Err, List, ℕ, Option}
+use Rattle.std.proofs.Common.{◌≡◌, ◌∙◌, ap, arith, option_map, subst, sym, Bool, IsTrue, Err, List, ℕ, Option}
 use Rattle.zarr_codecs_arrays.specs.Views.{elements_of, payload_of}
 use Rattle.zarr_codecs_traits.specs.Indexers.{asked_of}
 use Rattle.zarr_codecs_traits.specs.Arrays.{coded, coded_part, update_of, update_part}
 use Rattle.zarr_codecs_traits.specs.PartWriting.{NotEncodedWhole}
 use Rattle.zarr_codecs_traits.specs.Sources.{value_length}
+use Rattle.zarr_codecs_traits.specs.Writes.{most_to_patch}
 use Rattle.zarr_codecs_traits.proofs.Damage.{untaken_not_put}
 use Rattle.zarr_codecs_bytes.specs.Views.{bytes_chain, order_of}
 use Rattle.zarr_codecs_bytes.proofs.Unstored.{nothing_held, unstored_not_put}
@@ -18,18 +19,21 @@ returns-in-Err-clause-cause g c = λ _.
     untaken_not_put {A = Unit {0}} (coded chain elements shape) (update_of (asked_of c.args.part.indexer) (payload_of c.args.bytes) stored) (Err c.in-Err.error) (c.in-Err.ensures.cause stored)
 
 pub returns-in-Ok-Some-clause-given : goal.returns-in-Ok-Some-clause-given
-returns-in-Ok-Some-clause-given g c = λ honest ranges.
+returns-in-Ok-Some-clause-given g c = λ honest.
+    let E = g.E.BytesPartialDecoderTraits in
+    let ranges = g.E.BytesPartialEncoderTraits.writes_ranges in
     let reading = g.met.E.BytesPartialDecoderTraits in
     let laws = g.met.E.BytesPartialEncoderTraits in
     let follows = c.size.ensures.follows in
     let still = subst IsTrue (reading.honest c.args.source.now c.size.new.self follows) honest in
-    let on = subst IsTrue (laws.still_ranges c.args.source.now c.size.new.self (laws.reads c.args.source.now c.size.new.self follows)) ranges in
+    let first = laws.still_ranges c.args.source.now c.size.new.self (laws.reads c.args.source.now c.size.new.self follows) in
+    let patch = ap (λ (b : Bool). most_to_patch b (E.contents c.args.source.now)) first ∙ ap (most_to_patch (ranges c.size.new.self)) (reading.same c.args.source.now c.size.new.self follows) in
     let same = c.size.ensures.given in
-    let after = c.write_over.ensures.given still on in
-    omega (arith, same, after)
+    let after = c.write_over.ensures.given still in
+    omega (arith, same, patch, after)
 
 pub returns-in-Ok-None-clause-given : goal.returns-in-Ok-None-clause-given
-returns-in-Ok-None-clause-given g c = λ honest ranges.
+returns-in-Ok-None-clause-given g c = λ honest.
     let E = g.E.BytesPartialDecoderTraits in
     let reading = g.met.E.BytesPartialDecoderTraits in
     let follows = c.size.ensures.follows in

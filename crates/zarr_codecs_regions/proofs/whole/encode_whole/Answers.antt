@@ -1,9 +1,9 @@
 use Rattle.std.proofs.Common.{◌≡◌, ℕ, IsTrue, None, Some, Option, Err, Vec, Global, subst}
 use Rattle.zarr_codecs_meaning.specs.Chunks.{chunk_decoded}
-use Rattle.zarr_codecs_meaning.specs.Refusals.{CodecRefuses}
 use Rattle.zarr_codecs_arrays.specs.Views.{elements_of, payload_of}
 use Rattle.zarr_codecs_traits.specs.Arrays.{coded, update_of}
 use Rattle.zarr_codecs_traits.specs.Indexers.{asked_of}
+use Rattle.zarr_codecs_traits.specs.PartWriting.{WholeRefused}
 use Rattle.zarr_codecs_traits.specs.ShardWrites.{IsStoredGapless}
 use Rattle.zarr_codecs_traits.specs.Sources.{value_bytes}
 use Rattle.zarr_codecs_traits.proofs.Damage.{not_put}
@@ -16,7 +16,7 @@ returns-in-Err-clause-cause g c = λ _.
     let elements = elements_of c.args.part.elements.now in
     let shape = c.args.part.shape.now in
     let stored = g.E.BytesPartialDecoderTraits.contents c.args.source.now in
-    not_put {A = Unit {0}} ⊥ (chunk_decoded chain elements shape stored ≡ None) (λ after. ⊥) (CodecRefuses chain elements shape) (coded chain elements shape) (update_of (asked_of c.args.part.indexer) (payload_of c.args.bytes) stored) (Err c.in-Err.error)
+    not_put {A = Unit {0}} ⊥ (chunk_decoded chain elements shape stored ≡ None) (λ after. ⊥) (WholeRefused chain elements shape) (coded chain elements shape) (update_of (asked_of c.args.part.indexer) (payload_of c.args.bytes) stored) (Err c.in-Err.error)
     (λ none. absurd none) (λ after none. absurd none) (c.in-Err.ensures.cause stored)
 
 pub returns-in-Ok-Some-clause-rewrites : goal.returns-in-Ok-Some-clause-rewrites

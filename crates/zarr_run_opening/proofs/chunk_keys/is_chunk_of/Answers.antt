@@ -3,7 +3,7 @@ use Rattle.std.proofs.lemmas.Bool.{false≢true}
 use Rattle.std.proofs.lemmas.Slice.Eq.{bytes_eq-Decides}
 use Rattle.zarr_grids_chunks.specs.Grids.{Grid, IsInGrid}
 use Rattle.zarr_grids_dimensions.specs.Dimensions.{grid_of}
-use Rattle.zarr_sharding_arrays.specs.ArrayChains.{array_meaning}
+use Rattle.zarr_sharding_chains.specs.ArrayChains.{array_meaning}
 use Rattle.zarr_array_core.specs.Views.{document_of}
 use Rattle.zarr_grids_keys.specs.Encodings.{keys_of}
 use Rattle.zarr_grids_keys.specs.Keys.{chunk_key, has_flat_suffix}

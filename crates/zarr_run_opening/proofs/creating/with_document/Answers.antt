@@ -1,7 +1,7 @@
 use Rattle.std.proofs.Common.{refl, ◌≡◌, Ok}
 use Rattle.serde_json.specs.Data.{Data}
 use Rattle.serde_json.specs.View.{view}
-use Rattle.zarr_sharding_arrays.specs.ArrayChains.{array_meaning}
+use Rattle.zarr_sharding_chains.specs.ArrayChains.{array_meaning}
 use Rattle.zarr_array_core.specs.Views.{document_of}
 use Rattle.zarr_array_meaning.specs.Documents.{read_document}
 use Rattle.zarr_array_meaning.specs.Written.{written_document}

@@ -1,5 +1,5 @@
 use Rattle.std.proofs.Common.{ap, ◌∙◌}
-use Rattle.zarr_sharding_arrays.specs.ArrayChains.{array_function, array_meaning}
+use Rattle.zarr_sharding_chains.specs.ArrayChains.{array_function, array_meaning}
 use Rattle.zarr_run_opening.proofs.OrderLemmas.{follows_order, same_document}
 use Rattle.zarr_run_opening.proofs.write_order.set_write_order.Goals as goal
 

@@ -3,8 +3,9 @@ use Rattle.std.proofs.lemmas.Result.{IfOk-weaker}
 use Rattle.zarr_codecs_meaning.specs.Decoding.{is_absent, slice_at}
 use Rattle.zarr_codecs_meaning.specs.Encoding.{Pair, absent_pair}
 use Rattle.zarr_codecs_traits.specs.Pieces.{refused_by_pieces}
-use Rattle.zarr_sharding_index.specs.Held.{FetchesSlice}
+use Rattle.zarr_sharding_index.specs.HeldIndex.{FetchesSlice}
 use Rattle.zarr_sharding_index.specs.Present.{all_pairs}
+use Rattle.zarr_sharding_index.proofs.GivenSlices.{slice_given}
 use Rattle.zarr_sharding_codec.proofs.PartsRead.{present_value}
 use Rattle.zarr_sharding_codec.proofs.SlicesRead.{none_refused}
 use Rattle.zarr_sharding_codec.proofs.cut_parts.read_more.Goals as goal
@@ -40,3 +41,17 @@ returns-in-Err-clause-more g c = λ honest told.
     let held = present_value contents pairs c.args.shard.total k told c.requires.below there in
     let lost = subst (λ (p : Pair). FetchesSlice value p (Err c.in-Err.error)) c.get-pair.ensures (c.in-Err.ensures.slice honest value held.0 held.1) in
     inr (inr (record { there = there; error = c.in-Err.error; lost = lost; is = refl }))
+
+pub returns-in-Ok-clause-given : goal.returns-in-Ok-clause-given
+returns-in-Ok-clause-given g c = λ honest.
+    let count = g.D.BytesPartialDecoderTraits.given_bytes in
+    let pair = get_or (all_pairs c.args.shard.pairs.now) c.args.number absent_pair in
+    let there : is_absent pair ≡ false = ap is_absent (sym c.get-pair.ensures) ∙ (sym c.is_absent.ensures ∙ c.if-is_absent.false) in
+    slice_given c.args.shard.total c.get-pair.result pair (count c.args.source.now) (count c.fetch_slice.new.source) c.get-pair.ensures there (c.in-Ok.ensures.given honest) c.in-Ok.ensures.past
+
+pub returns-in-Err-clause-given : goal.returns-in-Err-clause-given
+returns-in-Err-clause-given g c = λ honest.
+    let count = g.D.BytesPartialDecoderTraits.given_bytes in
+    let pair = get_or (all_pairs c.args.shard.pairs.now) c.args.number absent_pair in
+    let there : is_absent pair ≡ false = ap is_absent (sym c.get-pair.ensures) ∙ (sym c.is_absent.ensures ∙ c.if-is_absent.false) in
+    slice_given c.args.shard.total c.get-pair.result pair (count c.args.source.now) (count c.fetch_slice.new.source) c.get-pair.ensures there (c.in-Err.ensures.given honest) c.in-Err.ensures.past

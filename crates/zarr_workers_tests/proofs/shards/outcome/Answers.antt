@@ -3,7 +3,7 @@ use denote.Param.Send.{IsSync, arg_sync, param_sync, sendable}
 use denote.RattleType.{RattleType}
 use Rattle.std.proofs.Crossing.{crosses}
 use Rattle.zarr_workers_tests.specs.contracts.waiting_codec.WaitingCodec as waiting
-use Rattle.zarr_sharding_arrays.proofs.Crossing.{plain_sync}
+use Rattle.zarr_sharding_chains.proofs.Crossing.{plain_sync}
 use Rattle.zarr_sharding_codec.proofs.codec.ShardingCodec.TheSendSync as shard
 use Rattle.zarr_sharding_codec.specs.contracts.codec.ShardingCodec as sharding
 use Rattle.zarr_workers_tests.proofs.shards.outcome.Goals as goal

@@ -1,18 +1,20 @@
 use Rattle.std.proofs.Common.{◌≡◌, ◌∙◌, ◌<◌, ℕ, length, sym, ap, subst, refl, rules, arith}
 use Rattle.zarr_grids_boxes.specs.Boxes.{Region, product}
 use Rattle.zarr_grids_boxes.specs.Subsets.{region_of}
+use Rattle.zarr_array_meaning.specs.ReadBytes.{box_read}
 use Rattle.zarr_array_core.specs.Arrays.{array_of}
 use Rattle.zarr_array_core.specs.Fetching.{EachChunk, IsFetched, read_of}
 use Rattle.zarr_array_core.specs.Outcomes.{CountsStop}
-use Rattle.zarr_array_core.specs.Views.{document_of}
+use Rattle.zarr_array_core.specs.Views.{document_of, path_of}
+use Rattle.zarr_array_core.proofs.GivenBytes.{first_given, more_given, stop_given}
 use Rattle.zarr_array_core.proofs.Fetched.{fetched_all, fetched_more, fetched_until, no_chunk, same_read}
 use Rattle.zarr_array_core.proofs.NthChunks.{nth_here, shares_here}
 use Rattle.zarr_array_core.proofs.array_core.ArrayCore.fetch_chunks.Goals as goal
 
 pub loop-n-init : goal.loop-n-init
 loop-n-init g c =
-    let chunks : Region = region_of c.args.read.chunks.now in
-    let first = read_of g.C.ArrayToBytesCodecTraits g.S.ReadableStorageTraits c.args.self.now c.args.store.now (region_of c.args.read.region.now) in
+    let chunks : Region = region_of c.args.read.now.chunks.now in
+    let first = read_of g.C.ArrayToBytesCodecTraits g.S.ReadableStorageTraits c.args.self.now c.args.store.now (region_of c.args.read.now.region.now) in
     let none = c.new-chunks.ensures.items in
     record {
       each = subst (EachChunk chunks (IsFetched first)) (sym none) (no_chunk chunks (IsFetched first));
@@ -21,30 +23,31 @@ loop-n-init g c =
       honest = refl;
       refused = refl;
       accepted = refl;
+      given = λ honest. omega arith;
     }
 
 pub fetch_chunk-requires-clause-below : goal.fetch_chunk-requires-clause-below
 fetch_chunk-requires-clause-below g c =
-    let chunks : Region = region_of c.args.read.chunks.now in
+    let chunks : Region = region_of c.args.read.now.chunks.now in
     let at_place = rw (c.start-first.ensures, c.shape-shape.ensures) at c.place_into.ensures in
     let total : c.unwrap-count.result ≡ product chunks.shape = search rules in
     let below : c.loop-n.n < product chunks.shape = omega (arith, c.loop-n-test.true) in
-    λ κs lives. nth_here (document_of g.C.ArrayToBytesCodecTraits.meaning c.args.self.now).grid chunks c.loop-n.n c.place_into.new.place (sym c.args.read.chunks.now.same) c.requires.intersecting.below below at_place
+    λ κs lives. nth_here (document_of g.C.ArrayToBytesCodecTraits.meaning c.args.self.now).grid chunks c.loop-n.n c.place_into.new.place (sym c.args.read.now.chunks.now.same) c.requires.intersecting.below below at_place
 
 pub fetch_chunk-requires-clause-shares : goal.fetch_chunk-requires-clause-shares
 fetch_chunk-requires-clause-shares g c =
-    let chunks : Region = region_of c.args.read.chunks.now in
+    let chunks : Region = region_of c.args.read.now.chunks.now in
     let at_place = rw (c.start-first.ensures, c.shape-shape.ensures) at c.place_into.ensures in
     let total : c.unwrap-count.result ≡ product chunks.shape = search rules in
     let below : c.loop-n.n < product chunks.shape = omega (arith, c.loop-n-test.true) in
-    λ κs lives. shares_here (document_of g.C.ArrayToBytesCodecTraits.meaning c.args.self.now).grid (region_of c.args.read.region.now) chunks c.loop-n.n c.place_into.new.place (sym c.args.read.chunks.now.same) c.requires.intersecting below at_place
+    λ κs lives. shares_here (document_of g.C.ArrayToBytesCodecTraits.meaning c.args.self.now).grid (region_of c.args.read.now.region.now) chunks c.loop-n.n c.place_into.new.place (sym c.args.read.now.chunks.now.same) c.requires.intersecting below at_place
 
 pub loop-n-preserved : goal.loop-n-preserved
 loop-n-preserved g c =
     let array = array_of g.C.ArrayToBytesCodecTraits c.args.self.now in
     let store = c.args.store.now in
-    let region : Region = region_of c.args.read.region.now in
-    let chunks : Region = region_of c.args.read.chunks.now in
+    let region : Region = region_of c.args.read.now.region.now in
+    let chunks : Region = region_of c.args.read.now.chunks.now in
     let s = g.S.ReadableStorageTraits in
     let first = read_of g.C.ArrayToBytesCodecTraits s c.args.self.now store region in
     let at_place = rw (c.start-first.ensures, c.shape-shape.ensures) at c.place_into.ensures in
@@ -59,13 +62,15 @@ loop-n-preserved g c =
       honest = step.store.honest ∙ kept.honest;
       refused = step.store.refused ∙ kept.refused;
       accepted = step.store.accepted ∙ kept.accepted;
+      given = λ honest. more_given array.path array.document (s.held store) (s.held c.loop-n.store) region c.args.read.now.options.now.workers chunks c.loop-n.n c.place_into.new.place (s.given_bytes store) (s.given_bytes c.loop-n.store) (s.given_bytes c.fetch_chunk.new.store)
+          kept.held at_place (kept.given honest) (step.given (rw kept.honest honest));
     }
 
 pub returns-in-Err-clause-fetched : goal.returns-in-Err-clause-fetched
 returns-in-Err-clause-fetched g c =
     let store = c.args.store.now in
-    let chunks : Region = region_of c.args.read.chunks.now in
-    let first = read_of g.C.ArrayToBytesCodecTraits g.S.ReadableStorageTraits c.args.self.now store (region_of c.args.read.region.now) in
+    let chunks : Region = region_of c.args.read.now.chunks.now in
+    let first = read_of g.C.ArrayToBytesCodecTraits g.S.ReadableStorageTraits c.args.self.now store (region_of c.args.read.now.region.now) in
     let at_place = rw (c.start-first.ensures, c.shape-shape.ensures) at c.place_into.ensures in
     let total : c.unwrap-count.result ≡ product chunks.shape = search rules in
     let below : c.loop-n.n < product chunks.shape = omega (arith, c.loop-n-test.true) in
@@ -86,8 +91,49 @@ returns-in-Err-clause-store g c =
 
 pub returns-clause-fetched : goal.returns-clause-fetched
 returns-clause-fetched g c =
-    let chunks : Region = region_of c.args.read.chunks.now in
-    let first = read_of g.C.ArrayToBytesCodecTraits g.S.ReadableStorageTraits c.args.self.now c.args.store.now (region_of c.args.read.region.now) in
+    let chunks : Region = region_of c.args.read.now.chunks.now in
+    let first = read_of g.C.ArrayToBytesCodecTraits g.S.ReadableStorageTraits c.args.self.now c.args.store.now (region_of c.args.read.now.region.now) in
     let total : c.unwrap-count.result ≡ product chunks.shape = search rules in
     let kept = c.loop-n.invariant in
     fetched_all first chunks c.loop-n.chunks.items c.loop-n.n kept.each kept.long (omega (arith, total))
+
+pub returns-in_err-push-in-Ok-clause-given : goal.returns-in_err-push-in-Ok-clause-given
+returns-in_err-push-in-Ok-clause-given g c = λ honest.
+    let s = g.S.ReadableStorageTraits in
+    let chunks : Region = region_of c.args.read.now.chunks.now in
+    let at_place = rw (c.start-first.ensures, c.shape-shape.ensures) at c.place_into.ensures in
+    let total : c.unwrap-count.result ≡ product chunks.shape = search rules in
+    let below : c.loop-n.n < product chunks.shape = omega (arith, c.loop-n-test.true) in
+    let kept = c.loop-n.invariant in
+    stop_given (path_of c.args.self.now) (document_of g.C.ArrayToBytesCodecTraits.meaning c.args.self.now) (s.held c.args.store.now) (s.held c.loop-n.store) (region_of c.args.read.now.region.now) c.args.read.now.options.now.workers chunks c.loop-n.n c.place_into.new.place
+    (s.given_bytes c.args.store.now) (s.given_bytes c.loop-n.store) (s.given_bytes c.fetch_chunk.new.store) (sym c.args.read.now.chunks.now.same) c.requires.intersecting below kept.held at_place (kept.given honest) (c.fetch_chunk.ensures.given (rw kept.honest honest))
+
+pub returns-in-Err-Memory-clause-given : goal.returns-in-Err-Memory-clause-given
+returns-in-Err-Memory-clause-given g c = λ honest.
+    let s = g.S.ReadableStorageTraits in
+    let chunks : Region = region_of c.args.read.now.chunks.now in
+    let at_place = rw (c.start-first.ensures, c.shape-shape.ensures) at c.place_into.ensures in
+    let total : c.unwrap-count.result ≡ product chunks.shape = search rules in
+    let below : c.loop-n.n < product chunks.shape = omega (arith, c.loop-n-test.true) in
+    let kept = c.loop-n.invariant in
+    stop_given (path_of c.args.self.now) (document_of g.C.ArrayToBytesCodecTraits.meaning c.args.self.now) (s.held c.args.store.now) (s.held c.loop-n.store) (region_of c.args.read.now.region.now) c.args.read.now.options.now.workers chunks c.loop-n.n c.place_into.new.place
+    (s.given_bytes c.args.store.now) (s.given_bytes c.loop-n.store) (s.given_bytes c.fetch_chunk.new.store) (sym c.args.read.now.chunks.now.same) c.requires.intersecting below kept.held at_place (kept.given honest) (c.fetch_chunk.ensures.given (rw kept.honest honest))
+
+pub returns-in-Err-clause-given : goal.returns-in-Err-clause-given
+returns-in-Err-clause-given g c = λ honest.
+    let s = g.S.ReadableStorageTraits in
+    let chunks : Region = region_of c.args.read.now.chunks.now in
+    let at_place = rw (c.start-first.ensures, c.shape-shape.ensures) at c.place_into.ensures in
+    let total : c.unwrap-count.result ≡ product chunks.shape = search rules in
+    let below : c.loop-n.n < product chunks.shape = omega (arith, c.loop-n-test.true) in
+    let kept = c.loop-n.invariant in
+    stop_given (path_of c.args.self.now) (document_of g.C.ArrayToBytesCodecTraits.meaning c.args.self.now) (s.held c.args.store.now) (s.held c.loop-n.store) (region_of c.args.read.now.region.now) c.args.read.now.options.now.workers chunks c.loop-n.n c.place_into.new.place
+    (s.given_bytes c.args.store.now) (s.given_bytes c.loop-n.store) (s.given_bytes c.fetch_chunk.new.store) (sym c.args.read.now.chunks.now.same) c.requires.intersecting below kept.held at_place (kept.given honest) (c.fetch_chunk.ensures.given (rw kept.honest honest))
+
+pub returns-clause-given : goal.returns-clause-given
+returns-clause-given g c = λ honest.
+    let s = g.S.ReadableStorageTraits in
+    let chunks : Region = region_of c.args.read.now.chunks.now in
+    let total : c.unwrap-count.result ≡ product chunks.shape = search rules in
+    first_given (box_read (path_of c.args.self.now) (document_of g.C.ArrayToBytesCodecTraits.meaning c.args.self.now) (s.held c.args.store.now) (region_of c.args.read.now.region.now) c.args.read.now.options.now.workers) chunks c.loop-n.n
+    (s.given_bytes c.args.store.now) (s.given_bytes c.loop-n.store) (sym c.args.read.now.chunks.now.same) c.requires.intersecting (omega (arith, total)) (c.loop-n.invariant.given honest)

@@ -1,8 +1,10 @@
-use Rattle.std.proofs.Common.{◌≡◌, IsTrue}
+use Rattle.std.proofs.Common.{◌≡◌, IsTrue, sum_by}
 use Rattle.zarr_grids_boxes.specs.Subsets.{region_of}
+use Rattle.zarr_array_meaning.specs.ReadBytes.{box_read, most_at}
 use Rattle.zarr_array_elements.specs.Views.{AreShown, cells_shown}
 use Rattle.zarr_array_core.specs.Arrays.{array_of}
-use Rattle.zarr_array_core.specs.Views.{document_of}
+use Rattle.zarr_array_core.specs.Calls.{GivesAtMost}
+use Rattle.zarr_array_core.specs.Views.{document_of, path_of}
 use Rattle.zarr_array_core.proofs.NthChunks.{first_chunks}
 use Rattle.zarr_array_core.proofs.ReadSoFar.{ReadSoFar}
 use Rattle.zarr_array_core.proofs.array_core.ArrayCore.read_chunks.Given as goal
@@ -16,4 +18,5 @@ invariant-loop-n g l = record {
   honest : g.S.ReadableStorageTraits.is_honest l.store ≡ g.S.ReadableStorageTraits.is_honest l.initial.store;
   refused : g.S.ReadableStorageTraits.refused_calls l.store ≡ g.S.ReadableStorageTraits.refused_calls l.initial.store;
   accepted : g.S.ReadableStorageTraits.accepted_writes l.store ≡ g.S.ReadableStorageTraits.accepted_writes l.initial.store;
+  given : GivesAtMost g.S.ReadableStorageTraits (sum_by (most_at (box_read (path_of l.self) (document_of g.C.ArrayToBytesCodecTraits.meaning l.self) (g.S.ReadableStorageTraits.held l.initial.store) (region_of l.read.region.now) l.read.options.now.workers)) (first_chunks (region_of l.read.chunks.now) l.n)) l.initial.store l.store;
 }

@@ -7,9 +7,10 @@ use Rattle.zarr_codecs_meaning.specs.Types.{Cell}
 use Rattle.zarr_codecs_arrays.specs.Views.{payload_of, elements_of}
 use Rattle.zarr_codecs_arrays.specs.declared.array_bytes.ArrayBytes.{ArrayBytes}
 use Rattle.zarr_array_elements.specs.Boxes.{cells_of, AreOfBox, ArePutOver, cells_at}
-use Rattle.zarr_array_elements.specs.Views.{AreShown, AreSized, cells_shown}
+use Rattle.zarr_array_elements.specs.Views.{AreShown, AreSized, cells_shown, cells_numbered}
 use Rattle.zarr_array_elements.specs.declared.box_elements.BoxElements.{BoxElements}
 use Rattle.zarr_array_elements.proofs.FixedPuts.{IsPut, sized_of, length-put, fixed_put}
+use Rattle.zarr_array_elements.proofs.PlacedShown.{ArePut, each_place, numbered_after, over_after, shows}
 use Rattle.zarr_array_elements.proofs.box_elements.BoxElements.put.Goals as goal
 
 pub put_or_take-made-requires-clause-given : goal.put_or_take-made-requires-clause-given
@@ -53,3 +54,27 @@ returns-in-Fixed-given-clause-cells c =
     let first : cells_of elements.type (payload_of c.args.given) ≡ fixed_cells width given = ap (λ (b : ArrayBytes). cells_of elements.type (payload_of b)) c.in-Fixed-given.is ∙ sized.are in
     subst (λ (cells : List Cell). ArePutOver elements.fill (cells_at at_box cells) (cells_at box (cells_shown elements c.args.self)) (fixed_cells width made)) (sym first)
     (subst (λ (s : BoxElements). ArePutOver elements.fill (cells_at at_box (fixed_cells width given)) (cells_at box (cells_shown elements s)) (fixed_cells width made)) (sym c.in-Fixed.is) (fixed_put width at_box box given before made elements.fill put))
+
+pub returns-in_ok-made-in-Placed : goal.returns-in_ok-made-in-Placed
+returns-in_ok-made-in-Placed c =
+    let elements = elements_of c.args.elements.now in
+    let box : Region = region_of c.args.region.now in
+    let at_box : Region = region_of c.args.at.now in
+    let part : List Cell = cells_of elements.type (payload_of c.args.given) in
+    let places = c.as_slice.result.now in
+    let all = c.in-Placed.all in
+    let made = c.in_ok-made-in-Placed.made in
+    let are : ArePut elements box at_box all part places = record {
+      rank = sym c.args.at.now.same;
+      inside = c.requires.inside;
+      shown = subst (AreShown elements box) c.in-Placed.is c.requires.shown;
+      whole = c.requires.given.many;
+      same = c.as_slice.ensures.value ∙ c.in_ok-places-in-Placed.ensures;
+    } in
+    let after = c.in_ok-made-in-Placed.ensures (cells_numbered elements all) part (shows elements (product box.shape) all are.shown) c.requires.given.lists (each_place elements box at_box all part places are) in
+    record {
+      shown = numbered_after elements box at_box all made part places are after;
+      cells =
+          subst (λ (s : BoxElements). ArePutOver elements.fill (cells_at at_box part) (cells_at box (cells_shown elements s)) (cells_numbered elements made)) (sym c.in-Placed.is)
+          (over_after elements box at_box all made part places are after);
+    }

@@ -30,7 +30,7 @@ returns-clause-parts g c = λ honest.
     whole_parts (coded_part chain c.args.part) (update_part c.args.part c.args.bytes stored) (g.E.BytesPartialDecoderTraits.contents c.encode_whole.new.source) c.encode_whole.result whole (c.encode_whole.ensures.gapless honest)
 
 pub returns-clause-given : goal.returns-clause-given
-returns-clause-given g c = λ honest ranges.
+returns-clause-given g c = λ honest.
     let meaning = g.A.ArrayToBytesCodecTraits.meaning in
     let codecs = c.args.self.now.bytes_to_bytes in
     let some = eqb-false codecs.len 0 (sym c.is_empty.ensures ∙ c.if-is_empty.false) in
@@ -38,4 +38,4 @@ returns-clause-given g c = λ honest ranges.
     let chain = then_meaning meaning g.B.BytesToBytesCodecTraits.meaning c.args.self.now in
     let stored = g.E.BytesPartialDecoderTraits.contents c.args.source.now in
     let whole = sym (never_encodes (meaning c.args.self.now.codec) g.B.BytesToBytesCodecTraits.meaning codecs.items (λ e. some (same ∙ e))) in
-    whole_given (coded_part chain c.args.part) (update_part c.args.part c.args.bytes stored) (g.E.BytesPartialDecoderTraits.given_bytes c.args.source.now) (g.E.BytesPartialDecoderTraits.given_bytes c.encode_whole.new.source) whole (c.encode_whole.ensures.given honest)
+    whole_given (coded_part chain c.args.part) (update_part c.args.part c.args.bytes stored) (g.E.BytesPartialEncoderTraits.writes_ranges c.args.source.now) (g.E.BytesPartialDecoderTraits.given_bytes c.args.source.now) (g.E.BytesPartialDecoderTraits.given_bytes c.encode_whole.new.source) whole (c.encode_whole.ensures.given honest)

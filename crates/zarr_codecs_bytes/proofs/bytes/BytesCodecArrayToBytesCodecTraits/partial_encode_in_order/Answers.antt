@@ -10,6 +10,6 @@ returns-clause-parts g c = λ honest.
     plain_parts true (coded_part (bytes_chain c.args.self.now) c.args.part) (update_part c.args.part c.args.bytes (E.contents c.args.source.now)) (E.contents c.write_asked.new.source) c.write_asked.result refl (c.write_asked.ensures.ok honest)
 
 pub returns-clause-given : goal.returns-clause-given
-returns-clause-given g c = λ honest ranges.
+returns-clause-given g c = λ honest.
     let E = g.E.BytesPartialDecoderTraits in
-    nothing_given (coded_part (bytes_chain c.args.self.now) c.args.part) (update_part c.args.part c.args.bytes (E.contents c.args.source.now)) (E.given_bytes c.args.source.now) (E.given_bytes c.write_asked.new.source) refl (c.write_asked.ensures.given honest ranges)
+    nothing_given (coded_part (bytes_chain c.args.self.now) c.args.part) (update_part c.args.part c.args.bytes (E.contents c.args.source.now)) (g.E.BytesPartialEncoderTraits.writes_ranges c.args.source.now) (E.given_bytes c.args.source.now) (E.given_bytes c.write_asked.new.source) refl refl (c.write_asked.ensures.given honest)

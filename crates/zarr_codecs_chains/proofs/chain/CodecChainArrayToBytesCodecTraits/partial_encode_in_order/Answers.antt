@@ -43,11 +43,11 @@ returns-clause-cause g c = λ honest.
     c.as_slice-array_to_array.ensures.value (c.encode_part_after.ensures.writes honest before).cause
 
 pub returns-clause-given : goal.returns-clause-given
-returns-clause-given g c = λ honest ranges.
+returns-clause-given g c = λ honest.
     let E = g.E.BytesPartialDecoderTraits in
     let meaning = g.B.BytesToBytesCodecTraits.meaning in
     let rest = bytes_meaning meaning c.args.self.now.others in
     let before = encodes_before (codecs_of c.as_slice-array_to_array.result.now) rest (bytes_plain meaning c.args.self.now.others) in
     subst
-    (λ (codecs : List ArrayToArrayCodec). GivesWriting (coded_part (with_array_codecs (codecs_of codecs) rest) c.args.part) (update_part c.args.part c.args.bytes (E.contents c.args.source.now)) (E.given_bytes c.args.source.now) (E.given_bytes c.encode_part_after.new.source))
-    c.as_slice-array_to_array.ensures.value ((c.encode_part_after.ensures.writes honest before).given ranges)
+    (λ (codecs : List ArrayToArrayCodec). GivesWriting (coded_part (with_array_codecs (codecs_of codecs) rest) c.args.part) (update_part c.args.part c.args.bytes (E.contents c.args.source.now)) (g.E.BytesPartialEncoderTraits.writes_ranges c.args.source.now) (E.given_bytes c.args.source.now) (E.given_bytes c.encode_part_after.new.source))
+    c.as_slice-array_to_array.ensures.value ((c.encode_part_after.ensures.writes honest before).given)

@@ -16,6 +16,6 @@ returns-clause-parts g c = λ honest.
     plain_parts true (coded_part (packbits_chain c.args.self.now) c.args.part) (update_part c.args.part c.args.bytes (E.contents c.args.source.now)) (E.contents c.encode_whole.new.source) c.encode_whole.result refl (c.encode_whole.ensures.ok honest)
 
 pub returns-clause-given : goal.returns-clause-given
-returns-clause-given g c = λ honest ranges.
+returns-clause-given g c = λ honest.
     let E = g.E.BytesPartialDecoderTraits in
-    whole_given (coded_part (packbits_chain c.args.self.now) c.args.part) (update_part c.args.part c.args.bytes (E.contents c.args.source.now)) (E.given_bytes c.args.source.now) (E.given_bytes c.encode_whole.new.source) refl (c.encode_whole.ensures.given honest)
+    whole_given (coded_part (packbits_chain c.args.self.now) c.args.part) (update_part c.args.part c.args.bytes (E.contents c.args.source.now)) (g.E.BytesPartialEncoderTraits.writes_ranges c.args.source.now) (E.given_bytes c.args.source.now) (E.given_bytes c.encode_whole.new.source) refl (c.encode_whole.ensures.given honest)

@@ -17,6 +17,7 @@ returns-in-Err g c = record {
       erase_not_found g.row.B.Denot codec.meaning codec.reads c.args.self.now.arrays (readable.held store) (readable.refused_calls store)
       c.args.path.now (region_of c.args.chunks.now) c.in-Err.cause c.in-Err.ensures.err;
   writes = λ honest world is. none_made _ _ refl;
+  given = λ honest world is. tt;
   honest = refl;
   refused = not_found_counts c.args.self.now.arrays c.args.path.now c.in-Err.cause (g.S.ReadableStorageTraits.refused_calls c.args.self.now.store) c.in-Err.ensures.err;
 }
@@ -33,6 +34,7 @@ returns g c = record {
       c.args.path.now (region_of c.args.chunks.now) c.in-Ok.array.now c.erase_chunks.result (answered c.reply_to_change.result)
       c.in-Ok.ensures.ok (change_counts c.erase_chunks.result _ _ _ c.reply_to_change.ensures c.erase_chunks.ensures.store.refused) c.reply_to_change.ensures (c.erase_chunks.ensures.ok honest) (c.erase_chunks.ensures.err honest);
   writes = λ honest world is. erase_bound world c.args.path.now (region_of c.args.chunks.now) c.erase_chunks.result _ _ _ c.reply_to_change.ensures c.erase_chunks.ensures.store.counts;
+  given = λ honest world is. tt;
   honest = c.erase_chunks.ensures.store.honest;
   refused = change_counts c.erase_chunks.result _ _ _ c.reply_to_change.ensures c.erase_chunks.ensures.store.refused;
 }

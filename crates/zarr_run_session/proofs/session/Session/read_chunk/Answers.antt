@@ -5,8 +5,8 @@ use Rattle.zarr_run_meaning.specs.Requests as ask
 use Rattle.zarr_run_session.proofs.ReadSteps.{read_steps}
 use Rattle.zarr_run_session.proofs.Refusals.{read_not_found}
 use Rattle.zarr_run_session.proofs.Counts.{not_found_counts, read_counts}
-use Rattle.zarr_run_session.proofs.Bounds.{none_made, read_bound}
-use Rattle.zarr_sharding_arrays.proofs.Crossing.{chain_sync}
+use Rattle.zarr_run_session.proofs.Bounds.{bytes_bound, none_made, none_read, read_bound}
+use Rattle.zarr_sharding_chains.proofs.Crossing.{chain_sync}
 use Rattle.zarr_run_session.proofs.session.Session.read_chunk.Goals as goal
 
 -- no array is held at the path
@@ -18,6 +18,7 @@ returns-in-Err g c = record {
       (g.S.ReadableStorageTraits.held session.store) (g.S.ReadableStorageTraits.refused_calls session.store) c.args.path.now
       (ask.in_chunk c.args.chunk.now) c.args.options.now c.in-Err.cause c.in-Err.ensures.err;
   writes = λ honest world is. none_made _ _ refl;
+  given = λ honest world is. none_read world c.args.path.now (ask.in_chunk c.args.chunk.now) c.args.options.now c.in-Err.cause (g.S.ReadableStorageTraits.given_bytes c.args.self.now.store);
   honest = refl;
   refused = not_found_counts c.args.self.now.arrays c.args.path.now c.in-Err.cause (g.S.ReadableStorageTraits.refused_calls c.args.self.now.store) c.in-Err.ensures.err;
 }
@@ -36,6 +37,12 @@ returns g c = record {
       (ask.in_chunk c.args.chunk.now) c.args.options.now c.in-Ok.array.now c.in-Ok.ensures.ok tt
       outcome.held c.read_chunk.result (outcome.ok honest) (outcome.err honest) (read_counts c.read_chunk.result _ _ _ refl outcome.refused));
   writes = λ honest world is. read_bound world c.args.path.now (ask.in_chunk c.args.chunk.now) c.args.options.now c.read_chunk.result _ _ _ c.reply_to_read.ensures c.read_chunk.ensures.accepted;
+  given = λ honest world is.
+      let old = c.args.self.now.store in
+      let readable = g.S.ReadableStorageTraits in
+      let codec = g.B.BytesToBytesCodecTraits in
+      bytes_bound g.row.B.Denot codec.meaning codec.reads c.args.self.now.arrays (readable.held old) (readable.refused_calls old) c.args.path.now c.in-Ok.array.now c.in-Ok.ensures.ok world is
+      (ask.in_chunk c.args.chunk.now) c.args.options.now c.read_chunk.result _ (readable.given_bytes old) (readable.given_bytes c.read_chunk.new.store) c.reply_to_read.ensures (c.read_chunk.ensures.given honest);
   honest = c.read_chunk.ensures.honest;
   refused = read_counts c.read_chunk.result _ _ _ c.reply_to_read.ensures c.read_chunk.ensures.refused;
 }

@@ -7,6 +7,7 @@ pub returns : goal.returns
 returns g c = record {
   steps = rw c.reply_to.ensures c.reopen.ensures.steps;
   writes = λ honest world is. reopen_bound world c.args.path.now c.args.order c.reopen.result (answered c.reply_to.result) _ _ c.reply_to.ensures c.reopen.ensures.accepted;
+  given = λ honest world is. tt;
   honest = c.reopen.ensures.honest;
   refused = outcome_counts c.reopen.result _ _ _ c.reply_to.ensures c.reopen.ensures.calls;
 }

@@ -6,7 +6,7 @@ use Rattle.zarr_run_session.proofs.RewriteSteps.{rewrite_steps}
 use Rattle.zarr_run_session.proofs.Refusals.{rewrite_not_found}
 use Rattle.zarr_run_session.proofs.Counts.{change_counts, not_found_counts}
 use Rattle.zarr_run_session.proofs.Bounds.{none_made, rewrite_bound}
-use Rattle.zarr_sharding_arrays.proofs.Crossing.{chain_sync}
+use Rattle.zarr_sharding_chains.proofs.Crossing.{chain_sync}
 use Rattle.zarr_run_session.proofs.session.Session.rewrite.Goals as goal
 
 -- no array is held at the path
@@ -19,6 +19,7 @@ returns-in-Err g c = record {
       rewrite_not_found g.row.B.Denot codec.meaning codec.reads c.args.self.now.arrays (readable.held store) (readable.refused_calls store)
       c.args.path.now c.args.options.now c.in-Err.cause c.in-Err.ensures.err;
   writes = λ honest world is. none_made _ _ refl;
+  given = λ honest world is. tt;
   honest = refl;
   refused = not_found_counts c.args.self.now.arrays c.args.path.now c.in-Err.cause (g.S.ReadableStorageTraits.refused_calls c.args.self.now.store) c.in-Err.ensures.err;
 }
@@ -41,6 +42,7 @@ returns g c = record {
       let codec = g.B.BytesToBytesCodecTraits in
       rewrite_bound g.row.B.Denot codec.meaning codec.reads c.args.self.now.arrays (readable.held old) (readable.refused_calls old) c.args.path.now c.in-Ok.array.now c.in-Ok.ensures.ok world is
       c.args.options.now true c.rewrite.result _ _ _ c.reply_to_change.ensures (c.rewrite.ensures.counts honest);
+  given = λ honest world is. tt;
   honest = c.rewrite.ensures.store.honest;
   refused = change_counts c.rewrite.result _ _ _ c.reply_to_change.ensures c.rewrite.ensures.store.refused;
 }

@@ -42,6 +42,9 @@ returns-clause-tight g c = λ honest.
 pub returns-clause-writes : goal.returns-clause-writes
 returns-clause-writes g c = c.answer.ensures.writes
 
+pub returns-clause-given : goal.returns-clause-given
+returns-clause-given g c = c.answer.ensures.given
+
 pub returns-clause-honest : goal.returns-clause-honest
 returns-clause-honest g c = c.answer.ensures.honest
 

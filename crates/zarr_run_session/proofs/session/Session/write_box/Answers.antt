@@ -9,7 +9,7 @@ use Rattle.zarr_run_session.proofs.Refusals.{write_not_found}
 use Rattle.zarr_run_session.proofs.WriteSteps.{write_steps}
 use Rattle.zarr_run_session.proofs.Counts.{change_counts, not_found_counts}
 use Rattle.zarr_run_session.proofs.Bounds.{none_made, write_bound}
-use Rattle.zarr_sharding_arrays.proofs.Crossing.{chain_sync}
+use Rattle.zarr_sharding_chains.proofs.Crossing.{chain_sync}
 use Rattle.zarr_run_session.proofs.session.Session.write_box.Goals as goal
 
 -- no array is held at the path
@@ -22,6 +22,7 @@ returns-in-Err g c = record {
       write_not_found g.row.B.Denot codec.meaning codec.reads c.args.self.now.arrays (readable.held store) (readable.refused_calls store)
       c.args.path.now (ask.in_box (region_of c.args.region.now)) (given c.args.cells.now) (allowed g.S.WritableStorageTraits.supports_set_partial c.args.options.now) c.in-Err.cause c.in-Err.ensures.err;
   writes = λ honest world is. none_made _ _ refl;
+  given = λ honest world is. tt;
   honest = refl;
   refused = not_found_counts c.args.self.now.arrays c.args.path.now c.in-Err.cause (g.S.ReadableStorageTraits.refused_calls c.args.self.now.store) c.in-Err.ensures.err;
 }
@@ -43,6 +44,7 @@ returns g c = record {
       let codec = g.B.BytesToBytesCodecTraits in
       write_bound g.row.B.Denot codec.meaning codec.reads c.args.self.now.arrays (readable.held old) (readable.refused_calls old) c.args.path.now c.in-Ok.array.now c.in-Ok.ensures.ok world is
       (ask.in_box (region_of c.args.region.now)) (given c.args.cells.now) (allowed g.S.WritableStorageTraits.supports_set_partial c.args.options.now) c.write_box.result (answered c.reply_to_change.result) _ _ c.reply_to_change.ensures c.write_box.ensures.store.counts;
+  given = λ honest world is. tt;
   honest = c.write_box.ensures.store.honest;
   refused = change_counts c.write_box.result _ _ _ c.reply_to_change.ensures c.write_box.ensures.store.refused;
 }

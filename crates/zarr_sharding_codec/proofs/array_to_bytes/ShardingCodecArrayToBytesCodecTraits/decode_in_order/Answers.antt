@@ -2,10 +2,10 @@ use Rattle.std.proofs.Common.{subst}
 use Rattle.zarr_codecs_arrays.specs.Views.{elements_of}
 use Rattle.zarr_codecs_meaning.specs.Chains.{sharded}
 use Rattle.zarr_codecs_meaning.specs.Places.{index_shape}
-use Rattle.zarr_sharding_index.specs.Held.{IsIndexHeld}
+use Rattle.zarr_sharding_index.specs.HeldIndex.{IsIndexHeld}
 use Rattle.zarr_sharding_index.specs.Views.{location_of, pairs_of}
 use Rattle.zarr_sharding_codec.specs.Fitting.{Suits}
-use Rattle.zarr_sharding_codec.specs.Reading.{DecodesPieces}
+use Rattle.zarr_sharding_codec.specs.Reading.{DecodesPieces, subchunks_of}
 use Rattle.zarr_sharding_codec.proofs.DecodedShard.{pair_count, shard_read, suits_fit}
 use Rattle.zarr_sharding_codec.proofs.EncodedShard.{index_part}
 use Rattle.zarr_sharding_codec.proofs.StoredLoop.{rank_fits}
@@ -38,5 +38,5 @@ returns-in-Ok g c =
     let same = c.as_slice-value.ensures.value in
     let pairs = pairs_of c.in-Ok.index in
     let held = subst (λ v. IsIndexHeld index location (index_shape shape subchunk) v pairs) same c.in-Ok.ensures in
-    let found = subst (λ v. DecodesPieces inner elements shape subchunk v pairs c.decode_pieces.result) same c.decode_pieces.ensures in
+    let found = subst (λ v. DecodesPieces (subchunks_of inner elements shape subchunk) v pairs c.decode_pieces.result) same c.decode_pieces.ensures in
     shard_read subchunk inner index location elements shape c.args.value.items pairs c.decode_pieces.result (suits_fit (sharded self.subchunk_shape (g.I.ArrayToBytesCodecTraits.meaning self.inner_codecs) (g.X.ArrayToBytesCodecTraits.meaning self.index_codecs) (location_of self.index_location)) (elements_of c.args.elements.now).type c.args.shape.now c.in_ok-size.field-0 c.in-Some.size c.in-Some.is (subst (λ t. Suits (sharded self.subchunk_shape (g.I.ArrayToBytesCodecTraits.meaning self.inner_codecs) (g.X.ArrayToBytesCodecTraits.meaning self.index_codecs) (location_of self.index_location)) t c.args.shape.now c.in_ok-size.field-0) c.data_type.ensures c.in_ok-size.ensures)) held found

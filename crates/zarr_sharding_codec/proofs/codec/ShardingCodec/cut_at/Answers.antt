@@ -6,7 +6,7 @@ use Rattle.zarr_codecs_meaning.specs.Places.{grid_of}
 use Rattle.zarr_codecs_meaning.proofs.Parts.{length-parts}
 use Rattle.zarr_codecs_traits.specs.Indexers.{numbers_of, shape_has}
 use Rattle.zarr_sharding_places.specs.Locating.{subchunk_box}
-use Rattle.zarr_sharding_codec.specs.BoxReading.{StandIn}
+use Rattle.zarr_sharding_codec.specs.BoxReading.{StandIn, cut_places}
 use Rattle.zarr_sharding_codec.proofs.BoxCuts.{IsPiece, piece_stands}
 use Rattle.zarr_sharding_codec.proofs.BoxInSubchunk.{is_around, some_place}
 use Rattle.zarr_sharding_codec.proofs.codec.ShardingCodec.cut_at.Goals as goal
@@ -59,6 +59,6 @@ returns g c =
       edges = edges;
       inside = within;
       some = omega (arith, some, size);
-      stand = subst (λ (e : List ℕ). StandIn shape subchunk (numbers_of shape region) (numbers_of region.shape (region_of target)) (numbers_of e (region_of inside)) n) (sym edges)
+      stand = subst (λ (e : List ℕ). StandIn (cut_places shape subchunk (numbers_of shape region)) (numbers_of region.shape (region_of target)) (numbers_of e (region_of inside)) n) (sym edges)
           (piece_stands shape subchunk region (region_of both) (region_of inside) (region_of target) n is);
     }

@@ -95,7 +95,7 @@ loop-j-init g c =
       refused = refl;
       goes_on = c.in_ok-pieces.ensures.goes_on;
       read = λ honest told. none_read part (BoxDone part c.as_slice-met.result.now 0) c.in_ok-pieces.pieces c.in_ok-pieces.ensures (λ t done. let low = done.1 in omega (arith, low));
-      given = λ honest. given_begun (shard_asked (asked_part array (in_box (region_of c.args.asked.region.now)) [] pairs)) c.as_slice-met.result.now (g.D.BytesPartialDecoderTraits.given_bytes c.args.source.now);
+      given = λ honest. given_begun (shard_asked (asked_part array (in_box (region_of c.args.asked.region.now)) [] pairs)) c.args.shard.total c.as_slice-met.result.now (g.D.BytesPartialDecoderTraits.given_bytes c.args.source.now);
     }
 
 pub loop-j-preserved : goal.loop-j-preserved
@@ -139,7 +139,7 @@ loop-j-preserved g c =
           let s = shard_asked (asked_part array (in_box region) [] pairs) in
           let can = askable s index location c.requires.fit c.requires.many (regions.asked_places shape (in_box region) c.requires.inside) in
           let count = g.D.BytesPartialDecoderTraits.given_bytes in
-          box_given s region met cut (count c.args.source.now) (count c.loop-j.source) (count c.read_more.new.source) j can are refl c.loop-j-test.true c.in_ok-inside.ensures (inv.given honest) (more.given (subst IsTrue (laws.honest _ _ inv.follows) honest));
+          box_given s c.args.shard.total region met cut (count c.args.source.now) (count c.loop-j.source) (count c.read_more.new.source) j can are refl c.loop-j-test.true c.in_ok-inside.ensures (inv.given honest) (more.given (subst IsTrue (laws.honest _ _ inv.follows) honest));
     }
 
 pub returns-then-is_some : goal.returns-then-is_some
@@ -181,8 +181,8 @@ returns-then-is_some g c =
           let s = shard_asked (asked_part array (in_box region) [] pairs) in
           let can = askable s index location c.requires.fit c.requires.many (regions.asked_places shape (in_box region) c.requires.inside) in
           let count = g.D.BytesPartialDecoderTraits.given_bytes in
-          given_done s met (count c.args.source.now) (count c.read_more.new.source) (j + 1)
-          (box_given s region met cut (count c.args.source.now) (count c.loop-j.source) (count c.read_more.new.source) j can are refl c.loop-j-test.true c.in_ok-inside.ensures (inv.given honest) (more.given (subst IsTrue (laws.honest _ _ inv.follows) honest)));
+          given_done s c.args.shard.total met (count c.args.source.now) (count c.read_more.new.source) (j + 1)
+          (box_given s c.args.shard.total region met cut (count c.args.source.now) (count c.loop-j.source) (count c.read_more.new.source) j can are refl c.loop-j-test.true c.in_ok-inside.ensures (inv.given honest) (more.given (subst IsTrue (laws.honest _ _ inv.follows) honest)));
       follows = laws.goes_on _ _ _ inv.follows more.follows;
     }
 
@@ -207,7 +207,7 @@ returns g c =
           read_all part (BoxDone part met j) c.loop-j.pieces (inv.read honest told) inv.goes_on (box_all part region refl met j are c.loop-j-test.false);
       refused = inv.refused ∙ sym (ap (refused_by_pieces (g.D.BytesPartialDecoderTraits.refused_calls c.args.source.now)) inv.goes_on);
       given = λ honest.
-          given_done (shard_asked (asked_part array (in_box region) [] pairs)) met (g.D.BytesPartialDecoderTraits.given_bytes c.args.source.now) (g.D.BytesPartialDecoderTraits.given_bytes c.loop-j.source) j (inv.given honest);
+          given_done (shard_asked (asked_part array (in_box region) [] pairs)) c.args.shard.total met (g.D.BytesPartialDecoderTraits.given_bytes c.args.source.now) (g.D.BytesPartialDecoderTraits.given_bytes c.loop-j.source) j (inv.given honest);
       follows = inv.follows;
     }
 
@@ -232,8 +232,8 @@ returns-in_err-pieces-2-clause-given g c = λ honest.
     let s = shard_asked (asked_part array (in_box region) [] (all_pairs c.args.shard.pairs.now)) in
     let can = askable s index location c.requires.fit c.requires.many (regions.asked_places shape (in_box region) c.requires.inside) in
     let count = g.D.BytesPartialDecoderTraits.given_bytes in
-    given_done s met (count c.args.source.now) (count c.read_more.new.source) (j + 1)
-    (box_given s region met c.in_ok-inside.field-0 (count c.args.source.now) (count c.loop-j.source) (count c.read_more.new.source) j can are refl c.loop-j-test.true c.in_ok-inside.ensures (inv.given honest)
+    given_done s c.args.shard.total met (count c.args.source.now) (count c.read_more.new.source) (j + 1)
+    (box_given s c.args.shard.total region met c.in_ok-inside.field-0 (count c.args.source.now) (count c.loop-j.source) (count c.read_more.new.source) j can are refl c.loop-j-test.true c.in_ok-inside.ensures (inv.given honest)
     (c.in_err-pieces-2.ensures.given (subst IsTrue (laws.honest _ _ inv.follows) honest)))
 
 pub returns-in_err-inside-clause-given : goal.returns-in_err-inside-clause-given
@@ -245,4 +245,4 @@ returns-in_err-inside-clause-given g c = λ honest.
     let location = location_of self.index_location in
     let array = coded (sharded subchunk inner index location) (elements_of c.args.shard.elements.now) c.args.asked.shape.now in
     let s = shard_asked (asked_part array (in_box (region_of c.args.asked.region.now)) [] (all_pairs c.args.shard.pairs.now)) in
-    given_done s c.as_slice-met.result.now (g.D.BytesPartialDecoderTraits.given_bytes c.args.source.now) (g.D.BytesPartialDecoderTraits.given_bytes c.loop-j.source) c.loop-j.j (c.loop-j.invariant.given honest)
+    given_done s c.args.shard.total c.as_slice-met.result.now (g.D.BytesPartialDecoderTraits.given_bytes c.args.source.now) (g.D.BytesPartialDecoderTraits.given_bytes c.loop-j.source) c.loop-j.j (c.loop-j.invariant.given honest)

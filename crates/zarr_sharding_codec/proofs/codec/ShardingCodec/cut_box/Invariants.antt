@@ -27,5 +27,5 @@ invariant-loop-j g l =
           ReadSlices part (BoxDone part l.met l.j) l.pieces;
       given : IsTrue (g.D.BytesPartialDecoderTraits.is_honest l.initial.source)
           → let part = asked_part (coded chain (elements_of l.shard.elements.now) l.asked.shape.now) (in_box (region_of l.asked.region.now)) [] (all_pairs l.shard.pairs.now) in
-          GivenBefore (shard_asked part) l.met (g.D.BytesPartialDecoderTraits.given_bytes l.initial.source) (g.D.BytesPartialDecoderTraits.given_bytes l.source) l.j;
+          GivenBefore (shard_asked part) l.shard.total l.met (g.D.BytesPartialDecoderTraits.given_bytes l.initial.source) (g.D.BytesPartialDecoderTraits.given_bytes l.source) l.j;
     }

@@ -84,7 +84,7 @@ loop-rest-init g c =
       goes_on = c.in_ok-pieces.ensures.goes_on;
       left = ([], refl, λ honest told. none_read part (ListDone []) c.in_ok-pieces.pieces c.in_ok-pieces.ensures (λ t done. let low = done.1 in omega (arith, low)));
       sorted = subst (λ (ps : List AskedPlace). IsNonDecreasingBy (λ (place : AskedPlace). place.subchunk) ps) (sym c.as_slice-rest.ensures.value) c.in_ok-places.ensures.sorted;
-      given = λ honest. none_given (shard_asked (asked_part array (listed c.args.asked.numbers.now) [] pairs)) (g.D.BytesPartialDecoderTraits.given_bytes c.args.source.now) c.as_slice-rest.result.now;
+      given = λ honest. none_given (shard_asked (asked_part array (listed c.args.asked.numbers.now) [] pairs)) c.args.shard.total (g.D.BytesPartialDecoderTraits.given_bytes c.args.source.now) c.as_slice-rest.result.now;
     }
 
 pub loop-rest-preserved : goal.loop-rest-preserved
@@ -141,7 +141,7 @@ loop-rest-preserved g c =
           let can = askable s index location c.requires.fit c.requires.many c.requires.below in
           let moved = subst (λ (ps : List AskedPlace). IsPermutation (asked_places shape subchunk numbers) ps) (sym c.as_slice-rest.ensures.value) c.in_ok-places.ensures.all in
           let count = g.D.BytesPartialDecoderTraits.given_bytes in
-          group_given s c.as_slice-rest.result.now c.loop-rest.rest.now group others (count c.args.source.now) (count c.loop-rest.source) (count c.read_more.new.source) can moved (record { done = inv.left.0; split = inv.left.1 }) cut
+          group_given s c.args.shard.total c.as_slice-rest.result.now c.loop-rest.rest.now group others (count c.args.source.now) (count c.loop-rest.source) (count c.read_more.new.source) can moved (record { done = inv.left.0; split = inv.left.1 }) cut
           c.leading_group.ensures.some c.leading_group.ensures.next inv.sorted (inv.given honest) (more.given (subst IsTrue (laws.honest _ _ inv.follows) honest));
     }
 
@@ -190,8 +190,8 @@ returns-then-is_some g c =
           let can = askable s index location c.requires.fit c.requires.many c.requires.below in
           let moved = subst (λ (ps : List AskedPlace). IsPermutation (asked_places shape subchunk numbers) ps) (sym c.as_slice-rest.ensures.value) c.in_ok-places.ensures.all in
           let count = g.D.BytesPartialDecoderTraits.given_bytes in
-          given_all s (count c.args.source.now) (count c.read_more.new.source) others
-          (group_given s c.as_slice-rest.result.now c.loop-rest.rest.now group others (count c.args.source.now) (count c.loop-rest.source) (count c.read_more.new.source) can moved (record { done = inv.left.0; split = inv.left.1 }) cut
+          given_all s c.args.shard.total (count c.args.source.now) (count c.read_more.new.source) others
+          (group_given s c.args.shard.total c.as_slice-rest.result.now c.loop-rest.rest.now group others (count c.args.source.now) (count c.loop-rest.source) (count c.read_more.new.source) can moved (record { done = inv.left.0; split = inv.left.1 }) cut
           c.leading_group.ensures.some c.leading_group.ensures.next inv.sorted (inv.given honest) (more.given (subst IsTrue (laws.honest _ _ inv.follows) honest)));
       follows = laws.goes_on _ _ _ inv.follows more.follows;
     }
@@ -217,7 +217,7 @@ returns g c =
           read_all part (ListDone inv.left.0) c.loop-rest.pieces (inv.left.2 honest told) inv.goes_on (λ t low. subst (λ (ps : List AskedPlace). ListDone ps t) (sym all) (list_all_done part numbers refl places moved t low));
       refused = inv.refused ∙ sym (ap (refused_by_pieces (g.D.BytesPartialDecoderTraits.refused_calls c.args.source.now)) inv.goes_on);
       given = λ honest.
-          given_all (shard_asked (asked_part array (listed numbers) [] pairs)) (g.D.BytesPartialDecoderTraits.given_bytes c.args.source.now) (g.D.BytesPartialDecoderTraits.given_bytes c.loop-rest.source) c.loop-rest.rest.now (inv.given honest);
+          given_all (shard_asked (asked_part array (listed numbers) [] pairs)) c.args.shard.total (g.D.BytesPartialDecoderTraits.given_bytes c.args.source.now) (g.D.BytesPartialDecoderTraits.given_bytes c.loop-rest.source) c.loop-rest.rest.now (inv.given honest);
       follows = inv.follows;
     }
 
@@ -243,8 +243,8 @@ returns-in_err-pieces-2-clause-given g c = λ honest.
     let can = askable s index location c.requires.fit c.requires.many c.requires.below in
     let moved = subst (λ (ps : List AskedPlace). IsPermutation (asked_places shape subchunk numbers) ps) (sym c.as_slice-rest.ensures.value) c.in_ok-places.ensures.all in
     let count = g.D.BytesPartialDecoderTraits.given_bytes in
-    given_all s (count c.args.source.now) (count c.read_more.new.source) others
-    (group_given s c.as_slice-rest.result.now c.loop-rest.rest.now group others (count c.args.source.now) (count c.loop-rest.source) (count c.read_more.new.source) can moved (record { done = inv.left.0; split = inv.left.1 }) cut
+    given_all s c.args.shard.total (count c.args.source.now) (count c.read_more.new.source) others
+    (group_given s c.args.shard.total c.as_slice-rest.result.now c.loop-rest.rest.now group others (count c.args.source.now) (count c.loop-rest.source) (count c.read_more.new.source) can moved (record { done = inv.left.0; split = inv.left.1 }) cut
     c.leading_group.ensures.some c.leading_group.ensures.next inv.sorted (inv.given honest) (c.in_err-pieces-2.ensures.given (subst IsTrue (laws.honest _ _ inv.follows) honest)))
 
 pub returns-in_err-insides-clause-given : goal.returns-in_err-insides-clause-given
@@ -256,7 +256,7 @@ returns-in_err-insides-clause-given g c = λ honest.
     let location = location_of self.index_location in
     let array = coded (sharded subchunk inner index location) (elements_of c.args.shard.elements.now) c.args.asked.shape.now in
     let s = shard_asked (asked_part array (listed c.args.asked.numbers.now) [] (all_pairs c.args.shard.pairs.now)) in
-    given_all s (g.D.BytesPartialDecoderTraits.given_bytes c.args.source.now) (g.D.BytesPartialDecoderTraits.given_bytes c.loop-rest.source) c.loop-rest.rest.now (c.loop-rest.invariant.given honest)
+    given_all s c.args.shard.total (g.D.BytesPartialDecoderTraits.given_bytes c.args.source.now) (g.D.BytesPartialDecoderTraits.given_bytes c.loop-rest.source) c.loop-rest.rest.now (c.loop-rest.invariant.given honest)
 
 pub returns-in_err-positions-clause-given : goal.returns-in_err-positions-clause-given
 returns-in_err-positions-clause-given g c = λ honest.
@@ -267,4 +267,4 @@ returns-in_err-positions-clause-given g c = λ honest.
     let location = location_of self.index_location in
     let array = coded (sharded subchunk inner index location) (elements_of c.args.shard.elements.now) c.args.asked.shape.now in
     let s = shard_asked (asked_part array (listed c.args.asked.numbers.now) [] (all_pairs c.args.shard.pairs.now)) in
-    given_all s (g.D.BytesPartialDecoderTraits.given_bytes c.args.source.now) (g.D.BytesPartialDecoderTraits.given_bytes c.loop-rest.source) c.loop-rest.rest.now (c.loop-rest.invariant.given honest)
+    given_all s c.args.shard.total (g.D.BytesPartialDecoderTraits.given_bytes c.args.source.now) (g.D.BytesPartialDecoderTraits.given_bytes c.loop-rest.source) c.loop-rest.rest.now (c.loop-rest.invariant.given honest)

@@ -30,7 +30,7 @@ invariant-loop-rest g l =
       sorted : IsNonDecreasingBy (λ (place : AskedPlace). place.subchunk) l.rest;
       given : IsTrue (g.D.BytesPartialDecoderTraits.is_honest l.initial.source)
           → let part = asked_part (coded chain (elements_of l.shard.elements.now) l.asked.shape.now) (listed l.asked.numbers.now) [] (all_pairs l.shard.pairs.now) in
-          GivenSoFar (shard_asked part) (g.D.BytesPartialDecoderTraits.given_bytes l.initial.source) (g.D.BytesPartialDecoderTraits.given_bytes l.source) l.rest;
+          GivenSoFar (shard_asked part) l.shard.total (g.D.BytesPartialDecoderTraits.given_bytes l.initial.source) (g.D.BytesPartialDecoderTraits.given_bytes l.source) l.rest;
     }
 
 abbrev pub decreases-loop-rest : goal.decreases-loop-rest

@@ -1,7 +1,7 @@
 use Rattle.std.proofs.Common.{List, ℕ, refl, subst, rules}
 use Rattle.zarr_codecs_arrays.specs.Views.{elements_of}
 use Rattle.zarr_codecs_meaning.specs.Places.{index_shape}
-use Rattle.zarr_sharding_index.specs.Held.{IsIndexHeld}
+use Rattle.zarr_sharding_index.specs.HeldIndex.{IsIndexHeld}
 use Rattle.zarr_sharding_index.specs.Views.{location_of, pairs_of}
 use Rattle.zarr_sharding_codec.proofs.EncodedShard.{index_part}
 use Rattle.zarr_sharding_codec.proofs.StoredLoop.{rank_fits}

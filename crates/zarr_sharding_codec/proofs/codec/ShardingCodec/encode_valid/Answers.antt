@@ -7,6 +7,7 @@ use Rattle.zarr_codecs_meaning.proofs.Shards.{length-pairs_from}
 use Rattle.zarr_sharding_index.specs.Stored.{index_fits}
 use Rattle.zarr_sharding_index.specs.Views.{location_of}
 use Rattle.zarr_sharding_codec.specs.Assembled.{Assembles}
+use Rattle.zarr_sharding_index.specs.Held.{index_coding}
 use Rattle.zarr_sharding_inner.specs.Orders.{is_row_major}
 use Rattle.zarr_sharding_codec.specs.Views.{makes_a_function}
 use Rattle.zarr_sharding_codec.proofs.EncodedShard.{assembled_encodes, index_part, pieces_refused, slices_many}
@@ -57,6 +58,6 @@ returns-in_ok-pairs_shape-in-Ok g c =
     let laid = c.in-Ok.ensures valid.0 valid.1 in
     let pairs = c.as_slice.ensures.value ∙ c.in_ok-pairs_shape-in-Ok.ensures in
     let base : base_of location c.args.size ≡ base_of location (index_size index c.as_slice.result.now) = ap (base_of location) (c.requires.size ∙ ap (index_size index) (sym pairs)) in
-    let made = subst (λ s. Assembles index two location s laid.stored c.assemble.result) pairs (c.assemble.ensures laid.stored laid.in_row (laid.indexed ∙ ap (λ n. pairs_from n laid.stored) base)) in
+    let made = subst (λ s. Assembles (index_coding index two location s) laid.stored c.assemble.result) pairs (c.assemble.ensures laid.stored laid.in_row (laid.indexed ∙ ap (λ n. pairs_from n laid.stored) base)) in
     assembled_encodes self.subchunk_shape inner index location (is_row_major self.subchunk_write_order) one two (elements_of c.args.array.elements.now) shape (payload_of c.args.bytes.now) valid.0 laid.stored c.assemble.result
     (g.met.I.ArrayToBytesCodecTraits.lawful self.inner_codecs) (g.met.X.ArrayToBytesCodecTraits.lawful self.index_codecs) c.requires.fit valid.1 laid.are made

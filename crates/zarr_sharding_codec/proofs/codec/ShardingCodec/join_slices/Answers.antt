@@ -11,6 +11,7 @@ use Rattle.zarr_sharding_index.specs.Views.{location_of}
 use Rattle.zarr_sharding_index.proofs.StoredIndex.{index_below}
 use Rattle.zarr_sharding_inner.specs.Orders.{is_row_major}
 use Rattle.zarr_sharding_codec.specs.Assembled.{Assembles}
+use Rattle.zarr_sharding_index.specs.Held.{index_coding}
 use Rattle.zarr_sharding_codec.specs.Slices.{slice_of}
 use Rattle.zarr_sharding_codec.proofs.EncodedShard.{assembled_encodes, index_part}
 use Rattle.zarr_sharding_codec.proofs.Gapless.{base_small}
@@ -83,6 +84,6 @@ returns g c = λ payload cells valid are.
     let stored = map slice_of c.args.stored.items in
     let pairs = c.as_slice-2.ensures.value ∙ c.in_ok-pairs_shape.ensures in
     let base : c.base.result ≡ base_of location (index_size index c.as_slice-2.result.now) = c.base.ensures ∙ (ap (base_of location) (c.requires.size ∙ ap (index_size index) (sym pairs))) in
-    let made = subst (λ (s : List ℕ). Assembles index two location s stored c.assemble.result) pairs (c.assemble.ensures stored c.in_ok-data.ensures.data (c.in_ok-data.ensures.index ∙ ap (λ n. pairs_from n stored) base)) in
+    let made = subst (λ (s : List ℕ). Assembles (index_coding index two location s) stored c.assemble.result) pairs (c.assemble.ensures stored c.in_ok-data.ensures.data (c.in_ok-data.ensures.index ∙ ap (λ n. pairs_from n stored) base)) in
     assembled_encodes subchunk inner index location (is_row_major self.subchunk_write_order) one two elements shape payload cells stored c.assemble.result
     (g.met.I.ArrayToBytesCodecTraits.lawful self.inner_codecs) (g.met.X.ArrayToBytesCodecTraits.lawful self.index_codecs) c.requires.fit valid are made

@@ -20,7 +20,7 @@ pub loop-j-init : goal.loop-j-init
 loop-j-init g c = record {
   shown = λ value pairs fit many sliced are.
       let self = c.args.self.now in
-      put_start (g.I.ArrayToBytesCodecTraits.meaning self.inner_codecs) (elements_of c.args.array.elements.now) c.args.array.shape.now self.subchunk_shape value sliced.present c.in_ok-filled.filled c.in-Some-count_places.total c.in-Some-count_places.ensures.1 c.in_ok-filled.ensures;
+      put_start (g.I.ArrayToBytesCodecTraits.meaning self.inner_codecs) (elements_of c.args.array.elements.now) c.args.array.shape.now self.subchunk_shape value sliced.present c.in_ok-filled.filled c.in-Some-count_elements.total c.in-Some-count_elements.ensures.some c.in_ok-filled.ensures;
 }
 
 pub loop-j-preserved : goal.loop-j-preserved

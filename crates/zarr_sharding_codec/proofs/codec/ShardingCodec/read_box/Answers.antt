@@ -85,7 +85,7 @@ returns-in-Some-clause-given g c = λ honest.
     let count = g.D.BytesPartialDecoderTraits.given_bytes in
     let edges = c.shape.result.now in
     let long = ap product c.shape.ensures ∙ sym (numbers_many shape asked c.args.asked.region.now.same) in
-    inside_given s (place_numbers edges) k can (whole_lies s edges k can c.in-Some.ensures.places long) (count c.args.source.now) (count c.read_whole.new.source) (whole_some s k can c.in-Some.ensures.places) (c.read_whole.ensures.given honest)
+    inside_given s (place_numbers edges) k can (whole_lies s edges k can c.in-Some.ensures.places long) c.args.shard.total (count c.args.source.now) (count c.read_whole.new.source) (whole_some s k can c.in-Some.ensures.places) (c.read_whole.ensures.given honest)
 
 pub subchunk_around-requires-clause-cuts : goal.subchunk_around-requires-clause-cuts
 subchunk_around-requires-clause-cuts g c =
@@ -162,4 +162,4 @@ returns-in-Some-2-clause-given g c = λ honest.
     let some = is.some in
     let many = is.lie.many in
     let all = numbers_many found.shape.items (region_of found.region) found.region.same in
-    inside_given s (numbers_of found.shape.items (region_of found.region)) found.number can is.lie (count c.args.source.now) (count c.read_inside.new.source) (omega (arith, some, many, all)) (c.read_inside.ensures.given honest)
+    inside_given s (numbers_of found.shape.items (region_of found.region)) found.number can is.lie c.args.shard.total (count c.args.source.now) (count c.read_inside.new.source) (omega (arith, some, many, all)) (c.read_inside.ensures.given honest)

@@ -1,8 +1,10 @@
 use Rattle.std.proofs.Common.{◌≡◌, ◌∙◌, ◌+◌, IsTrue, Option, List, ℕ, [], Ok, Err, ap, sym, refl, subst, arith, length, replicate, unwrap_or}
 use Rattle.zarr_codecs_arrays.specs.Views.{elements_of}
 use Rattle.zarr_codecs_meaning.specs.Fits.{fits}
+use Rattle.zarr_codecs_meaning.specs.Types.{IsTooLarge}
 use Rattle.zarr_codecs_meaning.proofs.Fitting.{fitted}
 use Rattle.zarr_codecs_regions.proofs.AskedPlaces as regions
+use Rattle.zarr_codecs_regions.proofs.FillValues.{larger_too}
 use Rattle.zarr_codecs_regions.specs.Updates.{put}
 use Rattle.zarr_codecs_traits.specs.Indexers.{in_box, numbers_of}
 use Rattle.zarr_codecs_traits.specs.Sources.{refused_after}
@@ -12,7 +14,7 @@ use Rattle.zarr_sharding_index.specs.Present.{all_pairs}
 use Rattle.zarr_sharding_index.specs.Views.{location_of}
 use Rattle.zarr_sharding_places.specs.Boxed.{ShowsBoxes}
 use Rattle.zarr_sharding_places.specs.Locating.{part_shape}
-use Rattle.zarr_sharding_codec.specs.BoxReading.{AreMet, StandIn}
+use Rattle.zarr_sharding_codec.specs.BoxReading.{AreMet, StandIn, cut_places}
 use Rattle.zarr_sharding_codec.specs.Reading.{IsTotalOf}
 use Rattle.zarr_sharding_codec.proofs.BoxInSubchunk.{numbers_many}
 use Rattle.zarr_sharding_codec.proofs.BoxRead.{box_before, box_begun, box_done, box_more, box_unread, given_begun, given_done, given_next}
@@ -87,7 +89,7 @@ loop-j-init g c =
             pairs = all_pairs c.args.shard.pairs.now;
             numbers = numbers_of c.args.asked.shape.now region;
           } in
-          let count : c.in-Some.count ≡ length s.numbers = c.in-Some.ensures.1 ∙ (ap product c.shape-lengths.ensures ∙ sym (numbers_many s.shape region c.args.asked.region.now.same)) in
+          let count : c.in-Some.count ≡ length s.numbers = c.in-Some.ensures.some ∙ (ap product c.shape-lengths.ensures ∙ sym (numbers_many s.shape region c.args.asked.region.now.same)) in
           box_begun s c.as_slice-met.result.now c.in_ok-filled.filled (subst (λ n. ShowsBoxes s.elements c.in_ok-filled.filled (replicate n s.elements.fill)) count c.in_ok-filled.ensures);
       given = λ honest.
           let s : AskedShard = record {
@@ -99,7 +101,7 @@ loop-j-init g c =
             pairs = all_pairs c.args.shard.pairs.now;
             numbers = numbers_of c.args.asked.shape.now region;
           } in
-          given_begun s c.as_slice-met.result.now (g.D.BytesPartialDecoderTraits.given_bytes c.args.source.now);
+          given_begun s c.args.shard.total c.as_slice-met.result.now (g.D.BytesPartialDecoderTraits.given_bytes c.args.source.now);
     }
 
 pub loop-j-preserved : goal.loop-j-preserved
@@ -131,7 +133,7 @@ loop-j-preserved g c =
             numbers = numbers_of c.args.asked.shape.now region;
           } in
           let can = askable s (g.X.ArrayToBytesCodecTraits.meaning self.index_codecs) (location_of self.index_location) c.requires.fit c.requires.many (regions.asked_places s.shape (in_box region) c.requires.inside) in
-          let stand = subst (λ n. StandIn s.shape s.subchunk s.numbers positions insides n) (sym out.number) out.stand in
+          let stand = subst (λ n. StandIn (cut_places s.shape s.subchunk s.numbers) positions insides n) (sym out.number) out.stand in
           let still = subst IsTrue (laws.honest _ _ inv.follows) honest in
           let same = laws.same _ _ inv.follows in
           let is = out.edges ∙ ap (part_shape s.shape s.subchunk) (sym out.number) in
@@ -151,12 +153,12 @@ loop-j-preserved g c =
             numbers = numbers_of c.args.asked.shape.now region;
           } in
           let can = askable s (g.X.ArrayToBytesCodecTraits.meaning self.index_codecs) (location_of self.index_location) c.requires.fit c.requires.many (regions.asked_places s.shape (in_box region) c.requires.inside) in
-          let stand = subst (λ n. StandIn s.shape s.subchunk s.numbers positions insides n) (sym out.number) out.stand in
+          let stand = subst (λ n. StandIn (cut_places s.shape s.subchunk s.numbers) positions insides n) (sym out.number) out.stand in
           let count = g.D.BytesPartialDecoderTraits.given_bytes in
           let some = out.some in
           let size = numbers_many edges (region_of cut.inside.region) cut.inside.region.same in
           let many = stand.many in
-          given_next s met positions insides k (count c.args.source.now) (count c.loop-j.source) (count c.read_inside.new.source) j can are stand (omega (arith, some, size, many)) c.loop-j-test.true (sym out.number) (inv.given honest)
+          given_next s c.args.shard.total met positions insides k (count c.args.source.now) (count c.loop-j.source) (count c.read_inside.new.source) j can are stand (omega (arith, some, size, many)) c.loop-j-test.true (sym out.number) (inv.given honest)
           (c.in-Ok.ensures.given (subst IsTrue (laws.honest _ _ inv.follows) honest));
     }
 
@@ -188,7 +190,7 @@ returns-in-Err g c =
             numbers = numbers_of c.args.asked.shape.now region;
           } in
           let can = askable s (g.X.ArrayToBytesCodecTraits.meaning self.index_codecs) (location_of self.index_location) c.requires.fit c.requires.many (regions.asked_places s.shape (in_box region) c.requires.inside) in
-          let stand = subst (λ n. StandIn s.shape s.subchunk s.numbers positions insides n) (sym out.number) out.stand in
+          let stand = subst (λ n. StandIn (cut_places s.shape s.subchunk s.numbers) positions insides n) (sym out.number) out.stand in
           let still = subst IsTrue (laws.honest _ _ inv.follows) honest in
           let same = laws.same _ _ inv.follows in
           let is = out.edges ∙ ap (part_shape s.shape s.subchunk) (sym out.number) in
@@ -206,13 +208,13 @@ returns-in-Err g c =
             numbers = numbers_of c.args.asked.shape.now region;
           } in
           let can = askable s (g.X.ArrayToBytesCodecTraits.meaning self.index_codecs) (location_of self.index_location) c.requires.fit c.requires.many (regions.asked_places s.shape (in_box region) c.requires.inside) in
-          let stand = subst (λ n. StandIn s.shape s.subchunk s.numbers positions insides n) (sym out.number) out.stand in
+          let stand = subst (λ n. StandIn (cut_places s.shape s.subchunk s.numbers) positions insides n) (sym out.number) out.stand in
           let count = g.D.BytesPartialDecoderTraits.given_bytes in
           let some = out.some in
           let size = numbers_many edges (region_of cut.inside.region) cut.inside.region.same in
           let many = stand.many in
-          given_done s met (count c.args.source.now) (count c.read_inside.new.source) (j + 1)
-          (given_next s met positions insides k (count c.args.source.now) (count c.loop-j.source) (count c.read_inside.new.source) j can are stand (omega (arith, some, size, many)) c.loop-j-test.true (sym out.number) (inv.given honest)
+          given_done s c.args.shard.total met (count c.args.source.now) (count c.read_inside.new.source) (j + 1)
+          (given_next s c.args.shard.total met positions insides k (count c.args.source.now) (count c.loop-j.source) (count c.read_inside.new.source) j can are stand (omega (arith, some, size, many)) c.loop-j-test.true (sym out.number) (inv.given honest)
           (c.in-Err.ensures.given (subst IsTrue (laws.honest _ _ inv.follows) honest)));
       follows = laws.goes_on _ _ _ inv.follows c.in-Err.ensures.follows;
     }
@@ -253,9 +255,15 @@ returns g c =
             pairs = all_pairs c.args.shard.pairs.now;
             numbers = numbers_of c.args.asked.shape.now region;
           } in
-          given_done s met (g.D.BytesPartialDecoderTraits.given_bytes c.args.source.now) (g.D.BytesPartialDecoderTraits.given_bytes c.loop-j.source) c.loop-j.j (inv.given honest);
+          given_done s c.args.shard.total met (g.D.BytesPartialDecoderTraits.given_bytes c.args.source.now) (g.D.BytesPartialDecoderTraits.given_bytes c.loop-j.source) c.loop-j.j (inv.given honest);
       follows = inv.follows;
     }
+
+pub returns-in_default-clause-part : goal.returns-in_default-clause-part
+returns-in_default-clause-part g c = λ honest told.
+    let type = (elements_of c.args.shard.elements.now).type in
+    larger_too type c.args.asked.shape.now (region_of c.args.asked.region.now) c.args.asked.region.now.same c.requires.inside
+    (subst (λ (es : List ℕ). IsTooLarge type (product es)) c.shape-lengths.ensures c.in_default.ensures.none)
 
 pub returns-in_err-cut-clause-given : goal.returns-in_err-cut-clause-given
 returns-in_err-cut-clause-given g c = λ honest.
@@ -270,7 +278,7 @@ returns-in_err-cut-clause-given g c = λ honest.
       pairs = all_pairs c.args.shard.pairs.now;
       numbers = numbers_of c.args.asked.shape.now region;
     } in
-    given_done s c.as_slice-met.result.now (g.D.BytesPartialDecoderTraits.given_bytes c.args.source.now) (g.D.BytesPartialDecoderTraits.given_bytes c.loop-j.source) c.loop-j.j (c.loop-j.invariant.given honest)
+    given_done s c.args.shard.total c.as_slice-met.result.now (g.D.BytesPartialDecoderTraits.given_bytes c.args.source.now) (g.D.BytesPartialDecoderTraits.given_bytes c.loop-j.source) c.loop-j.j (c.loop-j.invariant.given honest)
 
 pub returns-in_err-into_bytes-clause-given : goal.returns-in_err-into_bytes-clause-given
 returns-in_err-into_bytes-clause-given g c = λ honest.
@@ -285,7 +293,7 @@ returns-in_err-into_bytes-clause-given g c = λ honest.
       pairs = all_pairs c.args.shard.pairs.now;
       numbers = numbers_of c.args.asked.shape.now region;
     } in
-    given_done s c.as_slice-met.result.now (g.D.BytesPartialDecoderTraits.given_bytes c.args.source.now) (g.D.BytesPartialDecoderTraits.given_bytes c.loop-j.source) c.loop-j.j (c.loop-j.invariant.given honest)
+    given_done s c.args.shard.total c.as_slice-met.result.now (g.D.BytesPartialDecoderTraits.given_bytes c.args.source.now) (g.D.BytesPartialDecoderTraits.given_bytes c.loop-j.source) c.loop-j.j (c.loop-j.invariant.given honest)
 
 pub returns-in_err-all-in-Ok-clause-follows : goal.returns-in_err-all-in-Ok-clause-follows
 returns-in_err-all-in-Ok-clause-follows g c = g.met.D.BytesPartialDecoderTraits.goes_on _ _ _ c.loop-j.invariant.follows c.in-Ok.ensures.follows
@@ -315,11 +323,11 @@ returns-in_err-all-in-Ok-clause-given g c = λ honest.
       numbers = numbers_of c.args.asked.shape.now region;
     } in
     let can = askable s (g.X.ArrayToBytesCodecTraits.meaning self.index_codecs) (location_of self.index_location) c.requires.fit c.requires.many (regions.asked_places s.shape (in_box region) c.requires.inside) in
-    let stand = subst (λ n. StandIn s.shape s.subchunk s.numbers positions insides n) (sym out.number) out.stand in
+    let stand = subst (λ n. StandIn (cut_places s.shape s.subchunk s.numbers) positions insides n) (sym out.number) out.stand in
     let count = g.D.BytesPartialDecoderTraits.given_bytes in
     let some = out.some in
     let size = numbers_many edges (region_of cut.inside.region) cut.inside.region.same in
     let many = stand.many in
-    given_done s met (count c.args.source.now) (count c.read_inside.new.source) (j + 1)
-    (given_next s met positions insides k (count c.args.source.now) (count c.loop-j.source) (count c.read_inside.new.source) j can are stand (omega (arith, some, size, many)) c.loop-j-test.true (sym out.number) (inv.given honest)
+    given_done s c.args.shard.total met (count c.args.source.now) (count c.read_inside.new.source) (j + 1)
+    (given_next s c.args.shard.total met positions insides k (count c.args.source.now) (count c.loop-j.source) (count c.read_inside.new.source) j can are stand (omega (arith, some, size, many)) c.loop-j-test.true (sym out.number) (inv.given honest)
     (c.in-Ok.ensures.given (subst IsTrue (laws.honest _ _ inv.follows) honest)))

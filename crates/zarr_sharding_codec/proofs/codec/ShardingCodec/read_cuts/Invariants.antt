@@ -31,5 +31,5 @@ invariant-loop-j g l = record {
         value = [];
         pairs = all_pairs l.shard.pairs.now;
         numbers = numbers_of l.asked.shape.now (region_of l.asked.region.now);
-      }) l.met (g.D.BytesPartialDecoderTraits.given_bytes l.initial.source) (g.D.BytesPartialDecoderTraits.given_bytes l.source) l.j;
+      }) l.shard.total l.met (g.D.BytesPartialDecoderTraits.given_bytes l.initial.source) (g.D.BytesPartialDecoderTraits.given_bytes l.source) l.j;
 }

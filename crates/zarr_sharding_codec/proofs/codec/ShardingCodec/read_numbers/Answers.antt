@@ -55,7 +55,7 @@ loop-rest-init g c =
             pairs = all_pairs c.args.shard.pairs.now;
             numbers = c.args.asked.numbers.now;
           } in
-          none_given s (g.D.BytesPartialDecoderTraits.given_bytes c.args.source.now) c.as_slice-rest.result.now;
+          none_given s c.args.shard.total (g.D.BytesPartialDecoderTraits.given_bytes c.args.source.now) c.as_slice-rest.result.now;
     }
 
 pub loop-rest-smaller : goal.loop-rest-smaller
@@ -195,8 +195,8 @@ loop-rest-preserved g c =
           let asked = group_asked s c.as_slice-rest.result.now c.loop-rest.rest.now group c.leading_group.result.1.now moved inv.left c.leading_group.ensures.all in
           let sorted = subst (λ (ps : List AskedPlace). IsNonDecreasingBy (λ (place : AskedPlace). place.subchunk) ps) (sym c.leading_group.ensures.all) inv.sorted in
           let count = g.D.BytesPartialDecoderTraits.given_bytes in
-          let was = subst (λ (ps : List AskedPlace). GivenSoFar s (count c.args.source.now) (count c.loop-rest.source) ps) (sym c.leading_group.ensures.all) (inv.given honest) in
-          given_more s (count c.args.source.now) (count c.loop-rest.source) (count c.read_group.new.source) group others can asked c.leading_group.ensures.some c.leading_group.ensures.next sorted was
+          let was = subst (λ (ps : List AskedPlace). GivenSoFar s c.args.shard.total (count c.args.source.now) (count c.loop-rest.source) ps) (sym c.leading_group.ensures.all) (inv.given honest) in
+          given_more s c.args.shard.total (count c.args.source.now) (count c.loop-rest.source) (count c.read_group.new.source) group others can asked c.leading_group.ensures.some c.leading_group.ensures.next sorted was
           (c.in-Ok.ensures.given (subst IsTrue (laws.honest _ _ inv.follows) honest));
     }
 
@@ -244,8 +244,8 @@ returns-in-Err g c =
           let asked = group_asked s c.as_slice-rest.result.now c.loop-rest.rest.now group c.leading_group.result.1.now moved inv.left c.leading_group.ensures.all in
           let sorted = subst (λ (ps : List AskedPlace). IsNonDecreasingBy (λ (place : AskedPlace). place.subchunk) ps) (sym c.leading_group.ensures.all) inv.sorted in
           let count = g.D.BytesPartialDecoderTraits.given_bytes in
-          let was = subst (λ (ps : List AskedPlace). GivenSoFar s (count c.args.source.now) (count c.loop-rest.source) ps) (sym c.leading_group.ensures.all) (inv.given honest) in
-          given_refused s (count c.args.source.now) (count c.loop-rest.source) (count c.read_group.new.source) group others can asked c.leading_group.ensures.some c.leading_group.ensures.next sorted was
+          let was = subst (λ (ps : List AskedPlace). GivenSoFar s c.args.shard.total (count c.args.source.now) (count c.loop-rest.source) ps) (sym c.leading_group.ensures.all) (inv.given honest) in
+          given_refused s c.args.shard.total (count c.args.source.now) (count c.loop-rest.source) (count c.read_group.new.source) group others can asked c.leading_group.ensures.some c.leading_group.ensures.next sorted was
           (c.in-Err.ensures.given (subst IsTrue (laws.honest _ _ inv.follows) honest));
       follows = laws.goes_on _ _ _ inv.follows c.in-Err.ensures.follows;
     }
@@ -283,7 +283,7 @@ returns g c =
             pairs = all_pairs c.args.shard.pairs.now;
             numbers = c.args.asked.numbers.now;
           } in
-          given_all s (g.D.BytesPartialDecoderTraits.given_bytes c.args.source.now) (g.D.BytesPartialDecoderTraits.given_bytes c.loop-rest.source) c.loop-rest.rest.now (inv.given honest);
+          given_all s c.args.shard.total (g.D.BytesPartialDecoderTraits.given_bytes c.args.source.now) (g.D.BytesPartialDecoderTraits.given_bytes c.loop-rest.source) c.loop-rest.rest.now (inv.given honest);
       follows = inv.follows;
     }
 
@@ -311,8 +311,8 @@ returns-in_err-all-in-Ok-clause-given g c = λ honest.
     let asked = group_asked s c.as_slice-rest.result.now c.loop-rest.rest.now group others moved inv.left c.leading_group.ensures.all in
     let sorted = subst (λ (ps : List AskedPlace). IsNonDecreasingBy (λ (place : AskedPlace). place.subchunk) ps) (sym c.leading_group.ensures.all) inv.sorted in
     let count = g.D.BytesPartialDecoderTraits.given_bytes in
-    let was = subst (λ (ps : List AskedPlace). GivenSoFar s (count c.args.source.now) (count c.loop-rest.source) ps) (sym c.leading_group.ensures.all) (inv.given honest) in
-    given_refused s (count c.args.source.now) (count c.loop-rest.source) (count c.read_group.new.source) group others can asked c.leading_group.ensures.some c.leading_group.ensures.next sorted was
+    let was = subst (λ (ps : List AskedPlace). GivenSoFar s c.args.shard.total (count c.args.source.now) (count c.loop-rest.source) ps) (sym c.leading_group.ensures.all) (inv.given honest) in
+    given_refused s c.args.shard.total (count c.args.source.now) (count c.loop-rest.source) (count c.read_group.new.source) group others can asked c.leading_group.ensures.some c.leading_group.ensures.next sorted was
     (c.in-Ok.ensures.given (subst IsTrue (laws.honest _ _ inv.follows) honest))
 
 pub returns-in_err-gather-clause-given : goal.returns-in_err-gather-clause-given
@@ -327,7 +327,7 @@ returns-in_err-gather-clause-given g c = λ honest.
       pairs = all_pairs c.args.shard.pairs.now;
       numbers = c.args.asked.numbers.now;
     } in
-    given_all s (g.D.BytesPartialDecoderTraits.given_bytes c.args.source.now) (g.D.BytesPartialDecoderTraits.given_bytes c.loop-rest.source) c.loop-rest.rest.now (c.loop-rest.invariant.given honest)
+    given_all s c.args.shard.total (g.D.BytesPartialDecoderTraits.given_bytes c.args.source.now) (g.D.BytesPartialDecoderTraits.given_bytes c.loop-rest.source) c.loop-rest.rest.now (c.loop-rest.invariant.given honest)
 
 pub returns-in_err-edges-clause-given : goal.returns-in_err-edges-clause-given
 returns-in_err-edges-clause-given g c = λ honest.
@@ -341,4 +341,4 @@ returns-in_err-edges-clause-given g c = λ honest.
       pairs = all_pairs c.args.shard.pairs.now;
       numbers = c.args.asked.numbers.now;
     } in
-    given_all s (g.D.BytesPartialDecoderTraits.given_bytes c.args.source.now) (g.D.BytesPartialDecoderTraits.given_bytes c.loop-rest.source) c.loop-rest.rest.now (c.loop-rest.invariant.given honest)
+    given_all s c.args.shard.total (g.D.BytesPartialDecoderTraits.given_bytes c.args.source.now) (g.D.BytesPartialDecoderTraits.given_bytes c.loop-rest.source) c.loop-rest.rest.now (c.loop-rest.invariant.given honest)

@@ -34,7 +34,7 @@ invariant-loop-rest g l = record {
         value = [];
         pairs = all_pairs l.shard.pairs.now;
         numbers = l.asked.numbers.now;
-      }) (g.D.BytesPartialDecoderTraits.given_bytes l.initial.source) (g.D.BytesPartialDecoderTraits.given_bytes l.source) l.rest;
+      }) l.shard.total (g.D.BytesPartialDecoderTraits.given_bytes l.initial.source) (g.D.BytesPartialDecoderTraits.given_bytes l.source) l.rest;
 }
 
 abbrev pub decreases-loop-rest : goal.decreases-loop-rest

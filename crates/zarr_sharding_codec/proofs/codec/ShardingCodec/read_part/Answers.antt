@@ -1,4 +1,4 @@
-use Rattle.std.proofs.Common.{◌≤◌, ◌+◌, ◌∙◌, ap, sym, refl, subst, IsTrue, Option, Some, List, ℕ, replicate}
+use Rattle.std.proofs.Common.{◌≤◌, ◌+◌, ◌∙◌, sym, refl, subst, IsTrue, Option, List, ℕ}
 use Rattle.zarr_codecs_arrays.specs.Views.{elements_of}
 use Rattle.zarr_codecs_meaning.specs.Chains.{sharded}
 use Rattle.zarr_codecs_meaning.specs.Places.{grid_of, index_shape}
@@ -15,7 +15,7 @@ use Rattle.zarr_sharding_index.specs.Views.{location_of}
 use Rattle.zarr_sharding_codec.specs.Reading.{HasPairs}
 use Rattle.zarr_sharding_codec.proofs.EncodedShard.{index_part}
 use Rattle.zarr_sharding_codec.proofs.MostTaken.{slices_taken}
-use Rattle.zarr_sharding_codec.proofs.PartsRead.{fetched_nothing, fetched_value, part_filled, part_found, value_read, value_total}
+use Rattle.zarr_sharding_codec.proofs.PartsRead.{fetched_nothing, fetched_value, part_found, value_read, value_total}
 use Rattle.zarr_sharding_codec.proofs.StoredLoop.{rank_fits}
 use Rattle.zarr_sharding_codec.proofs.codec.ShardingCodec.read_part.Goals as goal
 
@@ -58,19 +58,19 @@ returns-in-Ok-Some-clause-part g c = λ honest.
     subst (λ (stored : Option (List ℕ)). DecodesPart (coded (sharded self.subchunk_shape inner index location) elements shape) stored asked c.read_asked.result) (sym opened.is)
     (part_found self.subchunk_shape inner index location elements shape opened.value pairs numbers asked c.read_asked.result c.requires.fit c.requires.inside refl opened.held found)
 
-pub returns-in_ok-fill_elements-in-Ok-None-clause-part : goal.returns-in_ok-fill_elements-in-Ok-None-clause-part
-returns-in_ok-fill_elements-in-Ok-None-clause-part g c = λ honest.
+pub returns-in-Ok-None-clause-part : goal.returns-in-Ok-None-clause-part
+returns-in-Ok-None-clause-part g c = λ honest.
     let self = c.args.self.now in
-    let inner = g.I.ArrayToBytesCodecTraits.meaning self.inner_codecs in
     let index = g.X.ArrayToBytesCodecTraits.meaning self.index_codecs in
     let location = location_of self.index_location in
     let shape = c.args.part.shape.now in
-    let asked = asked_of c.args.part.indexer in
+    let array = coded (sharded self.subchunk_shape (g.I.ArrayToBytesCodecTraits.meaning self.inner_codecs) index location) (elements_of c.args.part.elements.now) shape in
     let contents = g.D.BytesPartialDecoderTraits.contents c.args.source.now in
     let none = fetched_nothing index location (index_shape shape self.subchunk_shape) contents c.in-Ok-None.field-0 c.in-Ok-None.field-0-is (c.in-Ok-None.ensures.index honest) in
-    part_filled (sharded self.subchunk_shape inner index location) (elements_of c.args.part.elements.now) shape contents (numbers_asked shape asked) asked c.in_ok-fill_elements-in-Ok-None.field-0
-    c.requires.fit c.requires.inside refl none
-    (c.in_ok-fill_elements-in-Ok-None.ensures ∙ ap (λ k. Some (replicate k (elements_of c.args.part.elements.now).fill)) c.in-Some.ensures.some)
+    subst (λ (stored : Option (List ℕ)). DecodesPart array stored (asked_of c.args.part.indexer) c.fill_asked.result) (sym none) (c.fill_asked.ensures.part array.chain c.requires.fit)
+
+pub returns-in-Ok-None-clause-refused : goal.returns-in-Ok-None-clause-refused
+returns-in-Ok-None-clause-refused g c = c.in-Ok-None.ensures.refused ∙ sym (c.fill_asked.ensures.no_source (g.D.BytesPartialDecoderTraits.refused_calls c.args.source.now))
 
 pub returns-in-Ok-Some-clause-given : goal.returns-in-Ok-Some-clause-given
 returns-in-Ok-Some-clause-given g c = λ honest.
@@ -90,5 +90,5 @@ returns-in-Ok-Some-clause-given g c = λ honest.
     let still = subst IsTrue (g.met.D.BytesPartialDecoderTraits.honest _ _ first.follows) honest in
     let many = subst (HasPairs (product (grid_of shape subchunk))) c.in-Ok-Some.field-0-is first.many ∙ sym (length-parts shape subchunk) in
     subst (λ (stored : Option (List ℕ)). D.given_bytes c.read_asked.new.source ≤ D.given_bytes c.args.source.now + most_of_numbers (sharded subchunk inner index location) elements.type shape stored numbers) (sym opened.is)
-    (slices_taken subchunk inner index location elements.type shape opened.value numbers (all_pairs c.in-Ok-Some.fetched.pairs) c.args.size (D.given_bytes c.args.source.now) (D.given_bytes c.open_index.new.source) (D.given_bytes c.read_asked.new.source)
-    (fitted subchunk inner index location elements shape c.requires.fit).cuts many (asked_places shape asked c.requires.inside) opened.held.is c.requires.size (first.given honest) (c.read_asked.ensures.given still))
+    (slices_taken subchunk inner index location elements.type shape opened.value numbers (all_pairs c.in-Ok-Some.fetched.pairs) c.in-Ok-Some.fetched.total c.args.size (D.given_bytes c.args.source.now) (D.given_bytes c.open_index.new.source) (D.given_bytes c.read_asked.new.source)
+    opened.total (fitted subchunk inner index location elements shape c.requires.fit).cuts many (asked_places shape asked c.requires.inside) opened.held.is c.requires.size (first.given honest) (c.read_asked.ensures.given still))

@@ -2,7 +2,7 @@ use Rattle.std.proofs.Common.{◌∙◌, ap, sym, refl, Some}
 use Rattle.zarr_codecs_arrays.specs.Views.{elements_of, payload_of}
 use Rattle.zarr_grids_boxes.specs.Boxes.{product}
 use Rattle.std.proofs.Common.{get_or}
-use Rattle.zarr_sharding_state.specs.States.{pairs_in}
+use Rattle.zarr_sharding_index.specs.Known.{pairs_in}
 use Rattle.zarr_sharding_codec.specs.PartWriting.{Stored, stored_in}
 use Rattle.zarr_sharding_codec.proofs.GroupWritten.{IsGroupPut, group_refused, group_stored, group_valid, held_cells}
 use Rattle.zarr_codecs_meaning.specs.Encoding.{absent_pair}

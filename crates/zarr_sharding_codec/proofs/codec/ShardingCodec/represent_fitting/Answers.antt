@@ -2,7 +2,7 @@ use Rattle.std.proofs.Common.{◌≡◌, ◌∙◌, [], List, ℕ, Some, None, E
 use Rattle.zarr_codecs_types.specs.Views.{type_of}
 use Rattle.zarr_codecs_meaning.specs.Types.{zero_filled}
 use Rattle.zarr_sharding_index.specs.Views.{location_of}
-use Rattle.zarr_sharding_codec.specs.Fitting.{BoundsShapes, behind, bound_of_shapes, capped}
+use Rattle.zarr_sharding_codec.specs.Fitting.{BoundsShapes, any_told_long, behind, bound_of_shapes, capped}
 use Rattle.zarr_sharding_codec.proofs.ShardSizes.{index_told, slices_refused, slices_told, slices_unknown}
 use Rattle.zarr_sharding_codec.proofs.StoredLoop.{rank_fits}
 use Rattle.zarr_sharding_codec.proofs.codec.ShardingCodec.represent_fitting.Goals as goal
@@ -28,8 +28,10 @@ returns-in-Ok-Some g c =
     let front : c.as_slice-front.result.now ≡ [] = c.as_slice-front.ensures.value ∙ c.new-front.ensures.items in
     let same = ap (λ (f : List ℕ). option_map capped (bound_of_shapes inner type (behind f shape c.as_slice-edges.result.now))) front
     ∙ ap (λ (es : List ℕ). option_map capped (bound_of_shapes inner type (behind [] shape es))) c.as_slice-edges.ensures.edges in
-    let bounds : Some c.in-Ok-Some.slices ≡ option_map capped (bound_of_shapes inner type (behind [] shape self.subchunk_shape)) = sym c.in-Ok-Some.field-0-is ∙ (c.in-Ok-Some.ensures ∙ same) in
-    slices_told self.subchunk_shape inner (g.X.ArrayToBytesCodecTraits.meaning self.index_codecs) (location_of self.index_location) type shape c.requires.fit c.args.size c.in-Ok-Some.slices c.bounded.result c.requires.size bounds c.bounded.ensures
+    let alike = ap (λ (f : List ℕ). any_told_long inner type (behind f shape c.as_slice-edges.result.now)) front
+    ∙ ap (λ (es : List ℕ). any_told_long inner type (behind [] shape es)) c.as_slice-edges.ensures.edges in
+    let bounds : Some c.in-Ok-Some.slices ≡ option_map capped (bound_of_shapes inner type (behind [] shape self.subchunk_shape)) = sym c.in-Ok-Some.field-0-is ∙ (c.in-Ok-Some.ensures.sum ∙ same) in
+    slices_told self.subchunk_shape inner (g.X.ArrayToBytesCodecTraits.meaning self.index_codecs) (location_of self.index_location) type shape c.requires.fit c.args.size c.in-Ok-Some.slices c.bounded.result c.requires.size bounds (sym alike ∙ c.in-Ok-Some.ensures.short) c.bounded.ensures
 
 pub returns-in-Ok-None : goal.returns-in-Ok-None
 returns-in-Ok-None g c =
@@ -40,8 +42,10 @@ returns-in-Ok-None g c =
     let front : c.as_slice-front.result.now ≡ [] = c.as_slice-front.ensures.value ∙ c.new-front.ensures.items in
     let same = ap (λ (f : List ℕ). option_map capped (bound_of_shapes inner type (behind f shape c.as_slice-edges.result.now))) front
     ∙ ap (λ (es : List ℕ). option_map capped (bound_of_shapes inner type (behind [] shape es))) c.as_slice-edges.ensures.edges in
-    let none : None ≡ option_map capped (bound_of_shapes inner type (behind [] shape self.subchunk_shape)) = sym c.in-Ok-None.field-0-is ∙ (c.in-Ok-None.ensures ∙ same) in
-    slices_unknown self.subchunk_shape inner (g.X.ArrayToBytesCodecTraits.meaning self.index_codecs) (location_of self.index_location) type shape c.requires.fit c.args.size c.requires.size none
+    let alike = ap (λ (f : List ℕ). any_told_long inner type (behind f shape c.as_slice-edges.result.now)) front
+    ∙ ap (λ (es : List ℕ). any_told_long inner type (behind [] shape es)) c.as_slice-edges.ensures.edges in
+    let none : None ≡ option_map capped (bound_of_shapes inner type (behind [] shape self.subchunk_shape)) = sym c.in-Ok-None.field-0-is ∙ (c.in-Ok-None.ensures.sum ∙ same) in
+    slices_unknown self.subchunk_shape inner (g.X.ArrayToBytesCodecTraits.meaning self.index_codecs) (location_of self.index_location) type shape c.requires.fit c.args.size c.requires.size none (sym alike ∙ c.in-Ok-None.ensures.short)
 
 pub returns : goal.returns
 returns g c =

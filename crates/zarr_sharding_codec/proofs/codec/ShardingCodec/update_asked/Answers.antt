@@ -11,11 +11,12 @@ use Rattle.zarr_codecs_traits.specs.declared.indexer.Indexer.{Indexer}
 use Rattle.zarr_grids_boxes.specs.Boxes.{product}
 use Rattle.zarr_sharding_index.specs.Views.{location_of}
 use Rattle.zarr_sharding_places.specs.Locating.{asked_places, part_shape}
-use Rattle.zarr_sharding_state.specs.States.{pairs_in}
-use Rattle.zarr_sharding_state.specs.Views.{change_of, changes_of, is_below}
-use Rattle.zarr_sharding_state.specs.declared.writing.SliceChange.{SliceChange}
+use Rattle.zarr_sharding_index.specs.Known.{pairs_in}
+use Rattle.zarr_sharding_index.specs.SliceChanges.{change_of, changes_of, is_below}
+use Rattle.zarr_sharding_index.specs.declared.slice_changes.SliceChange.{SliceChange}
 use Rattle.zarr_sharding_codec.specs.BytesMet.{bytes_met}
-use Rattle.zarr_sharding_codec.specs.PartWriting.{AreChanged, AreSubchunk, IsGroupUpdated, PutsAll, UpdatesGroup, UpdatesSlices, put_at, stored_in}
+use Rattle.zarr_sharding_codec.specs.PartWriting.{AreChanged, AreSubchunk, IsGroupUpdated, PutsAll, UpdatesGroup, UpdatesSlices, given_group, put_at, stored_in}
+use Rattle.zarr_sharding_codec.specs.Updating.{total_of}
 use Rattle.zarr_sharding_codec.proofs.NumberedParts.{part_fits}
 use Rattle.zarr_sharding_codec.proofs.GroupsRead.{AskedShard}
 use Rattle.zarr_sharding_codec.proofs.SoFarRead.{askable}
@@ -89,7 +90,7 @@ returns-in_err-one_change-in-Ok-clause-given g c = λ honest.
     } in
     let can = askable s (g.X.ArrayToBytesCodecTraits.meaning self.index_codecs) (location_of self.index_location) c.requires.fit c.requires.many (regions.asked_places shape (asked_of c.args.given.indexer) c.requires.inside) in
     let count = g.D.BytesPartialDecoderTraits.given_bytes in
-    whole_given s n can is (count c.args.source.now) (count c.replace_subchunk.new.source) (c.in-Ok.ensures.given honest)
+    whole_given s n can is (total_of c.args.shard) (count c.args.source.now) (count c.replace_subchunk.new.source) (c.in-Ok.ensures.given honest)
 
 pub returns-in-Ok-clause-given : goal.returns-in-Ok-clause-given
 returns-in-Ok-clause-given g c = λ honest.
@@ -109,7 +110,7 @@ returns-in-Ok-clause-given g c = λ honest.
     } in
     let can = askable s (g.X.ArrayToBytesCodecTraits.meaning self.index_codecs) (location_of self.index_location) c.requires.fit c.requires.many (regions.asked_places shape (asked_of c.args.given.indexer) c.requires.inside) in
     let count = g.D.BytesPartialDecoderTraits.given_bytes in
-    whole_given s n can is (count c.args.source.now) (count c.replace_subchunk.new.source) (c.in-Ok.ensures.given honest)
+    whole_given s n can is (total_of c.args.shard) (count c.args.source.now) (count c.replace_subchunk.new.source) (c.in-Ok.ensures.given honest)
 
 pub returns-in-Some-clause-given : goal.returns-in-Some-clause-given
 returns-in-Some-clause-given g c = λ honest.
@@ -129,7 +130,7 @@ returns-in-Some-clause-given g c = λ honest.
     } in
     let can = askable s (g.X.ArrayToBytesCodecTraits.meaning self.index_codecs) (location_of self.index_location) c.requires.fit c.requires.many (regions.asked_places shape (asked_of c.args.given.indexer) c.requires.inside) in
     let count = g.D.BytesPartialDecoderTraits.given_bytes in
-    whole_given s n can is (count c.args.source.now) (count c.replace_subchunk.new.source) (c.in-Err.ensures.given honest)
+    whole_given s n can is (total_of c.args.shard) (count c.args.source.now) (count c.replace_subchunk.new.source) (c.in-Err.ensures.given honest)
 
 pub returns-in-Ok-clause-below : goal.returns-in-Ok-clause-below
 returns-in-Ok-clause-below g c =
@@ -166,7 +167,7 @@ returns-in-Ok-clause-changes g c = λ honest of cells valid.
     let new = subst (λ (m : ℕ). IsValid s.elements.type (payload_of c.args.given.bytes) m cells) (whole_count s n can is ∙ ap product (sym here)) valid in
     let change = c.in-Ok.change in
     let puts = subst (λ (es : List ℕ). PutsAll es s.elements.fill (asked_places s.shape s.subchunk s.numbers) cells) (sym here) (whole_puts s n can is exact cells valid.is.many) in
-    let made = subst (λ (es : List ℕ). IsGroupUpdated (stored_as s exact) es n (asked_places s.shape s.subchunk s.numbers) cells (change_of change)) here (c.in-Ok.ensures.change honest of cells (asked_places s.shape s.subchunk s.numbers) new puts) in
+    let made = subst (λ (es : List ℕ). IsGroupUpdated (stored_as s exact) (given_group es n (asked_places s.shape s.subchunk s.numbers) cells) (change_of change)) here (c.in-Ok.ensures.change honest of cells (asked_places s.shape s.subchunk s.numbers) new puts) in
     subst (λ (cs : List SliceChange). AreChanged (stored_as s exact) (put_as s cells) (changes_of cs)) (sym c.in_ok-one_change-in-Ok.ensures) (whole_updated s n can is exact cells valid.is.many (change_of change) made)
 
 pub returns-in-Some-clause-changes : goal.returns-in-Some-clause-changes
@@ -190,7 +191,7 @@ returns-in-Some-clause-changes g c = λ honest of cells valid.
     let here : c.as_slice-shape.result.now ≡ part_shape shape self.subchunk_shape n = c.as_slice-shape.ensures.value ∙ c.in_ok-lengths-in-Some.ensures in
     let new = subst (λ (m : ℕ). IsValid s.elements.type (payload_of c.args.given.bytes) m cells) (whole_count s n can is ∙ ap product (sym here)) valid in
     let puts = subst (λ (es : List ℕ). PutsAll es s.elements.fill (asked_places s.shape s.subchunk s.numbers) cells) (sym here) (whole_puts s n can is exact cells valid.is.many) in
-    let why = subst (λ (es : List ℕ). UpdatesGroup (stored_as s exact) es n (asked_places s.shape s.subchunk s.numbers) cells (Err c.in-Err.error)) here (c.in-Err.ensures.change honest of cells (asked_places s.shape s.subchunk s.numbers) new puts) in
+    let why = subst (λ (es : List ℕ). UpdatesGroup (stored_as s exact) (given_group es n (asked_places s.shape s.subchunk s.numbers) cells) (Err c.in-Err.error)) here (c.in-Err.ensures.change honest of cells (asked_places s.shape s.subchunk s.numbers) new puts) in
     whole_unwritten s n can is exact cells valid.is.many c.in-Err.error why
 
 pub returns-in-Subset-clause-changes : goal.returns-in-Subset-clause-changes
@@ -206,7 +207,7 @@ pub returns-in-Subset-clause-given : goal.returns-in-Subset-clause-given
 returns-in-Subset-clause-given g c = λ honest.
     let count = g.D.BytesPartialDecoderTraits.given_bytes in
     let shape = c.args.given.shape.now in
-    subst (λ (i : Indexer). count c.update_box.new.source ≤ count c.args.source.now + bytes_met shape c.args.self.now.subchunk_shape (numbers_asked shape (asked_of i)) (pairs_in c.args.shard.known.now)) (sym c.in-Subset.is) (c.update_box.ensures.given honest)
+    subst (λ (i : Indexer). count c.update_box.new.source ≤ count c.args.source.now + bytes_met shape c.args.self.now.subchunk_shape (numbers_asked shape (asked_of i)) (pairs_in c.args.shard.known.now) (total_of c.args.shard)) (sym c.in-Subset.is) (c.update_box.ensures.given honest)
 
 pub returns-clause-changes : goal.returns-clause-changes
 returns-clause-changes g c = λ honest of cells valid.
@@ -221,4 +222,4 @@ pub returns-clause-given : goal.returns-clause-given
 returns-clause-given g c = λ honest.
     let count = g.D.BytesPartialDecoderTraits.given_bytes in
     let shape = c.args.given.shape.now in
-    subst (λ (i : Indexer). count c.update_slices.new.source ≤ count c.args.source.now + bytes_met shape c.args.self.now.subchunk_shape (numbers_asked shape (asked_of i)) (pairs_in c.args.shard.known.now)) (sym c.in-List.is) (c.update_slices.ensures.given honest)
+    subst (λ (i : Indexer). count c.update_slices.new.source ≤ count c.args.source.now + bytes_met shape c.args.self.now.subchunk_shape (numbers_asked shape (asked_of i)) (pairs_in c.args.shard.known.now) (total_of c.args.shard)) (sym c.in-List.is) (c.update_slices.ensures.given honest)

@@ -10,11 +10,12 @@ use Rattle.zarr_codecs_traits.specs.Indexers.{in_box}
 use Rattle.zarr_grids_boxes.specs.Boxes.{product}
 use Rattle.zarr_grids_boxes.specs.Subsets.{region_of}
 use Rattle.zarr_sharding_index.specs.Views.{location_of}
-use Rattle.zarr_sharding_state.specs.States.{end_of, pairs_in}
-use Rattle.zarr_sharding_state.specs.Views.{change_of, changes_of, is_below}
-use Rattle.zarr_sharding_state.specs.declared.writing.SliceChange.{SliceChange}
+use Rattle.zarr_sharding_index.specs.Known.{end_of, pairs_in, known_location, known_length}
+use Rattle.zarr_sharding_index.specs.SliceChanges.{change_of, changes_of, is_below}
+use Rattle.zarr_sharding_index.specs.declared.slice_changes.SliceChange.{SliceChange}
 use Rattle.zarr_sharding_codec.specs.BoxReading.{AreMet}
 use Rattle.zarr_sharding_codec.specs.PartWriting.{IsOf}
+use Rattle.zarr_sharding_codec.specs.Updating.{total_of}
 use Rattle.zarr_sharding_codec.proofs.BoxInSubchunk.{numbers_many}
 use Rattle.zarr_sharding_codec.proofs.BoxRead.{given_begun, given_done}
 use Rattle.zarr_sharding_codec.proofs.BoxWritten.{BoxUpdated, all_updated, box_asked, box_updated, cut_before, cut_below, cut_given, cut_group, cut_whole, group_at, none_updated}
@@ -86,7 +87,7 @@ loop-j-init g c =
       updated = λ honest of cells valid.
           let exact = g.I.ArrayToBytesCodecTraits.is_function self.inner_codecs in
           subst (λ (cs : List SliceChange). BoxUpdated s exact cells met (changes_of cs) 0) (sym none) (none_updated s exact cells met);
-      given = λ honest. given_begun s met (g.D.BytesPartialDecoderTraits.given_bytes c.args.source.now);
+      given = λ honest. given_begun s (total_of c.args.shard) met (g.D.BytesPartialDecoderTraits.given_bytes c.args.source.now);
     }
 
 pub loop-j-preserved : goal.loop-j-preserved
@@ -116,7 +117,7 @@ loop-j-preserved g c =
           let exact = g.I.ArrayToBytesCodecTraits.is_function self.inner_codecs in
           let still = subst IsTrue (laws.honest _ _ inv.follows) honest in
           let same = laws.same _ _ inv.follows in
-          let kept = subst (λ (o : Option (List ℕ)). IsOf (location_of c.args.shard.layout.location) c.args.shard.layout.size o (pairs_in c.args.shard.known.now) (end_of c.args.shard.known.now)) same of in
+          let kept = subst (λ (o : Option (List ℕ)). IsOf (known_location c.args.shard.known.now) (known_length c.args.shard.known.now) o (pairs_in c.args.shard.known.now) (end_of c.args.shard.known.now)) same of in
           let lengths = c.shape-lengths.ensures in
           let new = subst (λ m. IsValid s.elements.type (payload_of c.args.given.bytes.now) m cells) (numbers_many s.shape region c.args.given.region.now.same ∙ ap product (sym lengths)) valid in
           let whole = cut_whole s region cut n refl out cells valid.is.many (cut_below s region cut n refl out met j c.requires.many are low refl) in
@@ -127,7 +128,7 @@ loop-j-preserved g c =
       given = λ honest.
           let can = askable s (g.X.ArrayToBytesCodecTraits.meaning self.index_codecs) (location_of self.index_location) c.requires.fit c.requires.many (regions.asked_places s.shape (in_box region) c.requires.inside) in
           let count = g.D.BytesPartialDecoderTraits.given_bytes in
-          let next = cut_given s region cut n refl out met (count c.args.source.now) (count c.loop-j.source) (count c.update_cut.new.source) j can are low refl (inv.given honest) (c.in-Ok.ensures.given (subst IsTrue (laws.honest _ _ inv.follows) honest)) in
+          let next = cut_given s region cut n refl out (total_of c.args.shard) met (count c.args.source.now) (count c.loop-j.source) (count c.update_cut.new.source) j can are low refl (inv.given honest) (c.in-Ok.ensures.given (subst IsTrue (laws.honest _ _ inv.follows) honest)) in
           next;
     }
 
@@ -149,7 +150,7 @@ returns-in-Err-clause-changes g c = λ honest of cells valid.
     let exact = g.I.ArrayToBytesCodecTraits.is_function self.inner_codecs in
     let still = subst IsTrue (laws.honest _ _ inv.follows) honest in
     let same = laws.same _ _ inv.follows in
-    let kept = subst (λ (o : Option (List ℕ)). IsOf (location_of c.args.shard.layout.location) c.args.shard.layout.size o (pairs_in c.args.shard.known.now) (end_of c.args.shard.known.now)) same of in
+    let kept = subst (λ (o : Option (List ℕ)). IsOf (known_location c.args.shard.known.now) (known_length c.args.shard.known.now) o (pairs_in c.args.shard.known.now) (end_of c.args.shard.known.now)) same of in
     let lengths = c.shape-lengths.ensures in
     let new = subst (λ m. IsValid s.elements.type (payload_of c.args.given.bytes.now) m cells) (numbers_many s.shape region c.args.given.region.now.same ∙ ap product (sym lengths)) valid in
     let whole = cut_whole s region cut n refl out cells valid.is.many (cut_below s region cut n refl out met j c.requires.many are low refl) in
@@ -174,8 +175,8 @@ returns-in-Err-clause-given g c = λ honest.
     let k = cut.inside.number in
     let can = askable s (g.X.ArrayToBytesCodecTraits.meaning self.index_codecs) (location_of self.index_location) c.requires.fit c.requires.many (regions.asked_places s.shape (in_box region) c.requires.inside) in
     let count = g.D.BytesPartialDecoderTraits.given_bytes in
-    let next = cut_given s region cut n refl out met (count c.args.source.now) (count c.loop-j.source) (count c.update_cut.new.source) j can are low refl (inv.given honest) (c.in-Err.ensures.given (subst IsTrue (laws.honest _ _ inv.follows) honest)) in
-    given_done s met (count c.args.source.now) (count c.update_cut.new.source) (j + 1) next
+    let next = cut_given s region cut n refl out (total_of c.args.shard) met (count c.args.source.now) (count c.loop-j.source) (count c.update_cut.new.source) j can are low refl (inv.given honest) (c.in-Err.ensures.given (subst IsTrue (laws.honest _ _ inv.follows) honest)) in
+    given_done s (total_of c.args.shard) met (count c.args.source.now) (count c.update_cut.new.source) (j + 1) next
 
 pub returns-in_err-push-in-Ok-clause-given : goal.returns-in_err-push-in-Ok-clause-given
 returns-in_err-push-in-Ok-clause-given g c = λ honest.
@@ -194,8 +195,8 @@ returns-in_err-push-in-Ok-clause-given g c = λ honest.
     let k = cut.inside.number in
     let can = askable s (g.X.ArrayToBytesCodecTraits.meaning self.index_codecs) (location_of self.index_location) c.requires.fit c.requires.many (regions.asked_places s.shape (in_box region) c.requires.inside) in
     let count = g.D.BytesPartialDecoderTraits.given_bytes in
-    let next = cut_given s region cut n refl out met (count c.args.source.now) (count c.loop-j.source) (count c.update_cut.new.source) j can are low refl (inv.given honest) (c.in-Ok.ensures.given (subst IsTrue (laws.honest _ _ inv.follows) honest)) in
-    given_done s met (count c.args.source.now) (count c.update_cut.new.source) (j + 1) next
+    let next = cut_given s region cut n refl out (total_of c.args.shard) met (count c.args.source.now) (count c.loop-j.source) (count c.update_cut.new.source) j can are low refl (inv.given honest) (c.in-Ok.ensures.given (subst IsTrue (laws.honest _ _ inv.follows) honest)) in
+    given_done s (total_of c.args.shard) met (count c.args.source.now) (count c.update_cut.new.source) (j + 1) next
 
 pub returns-in-Err-clause-follows : goal.returns-in-Err-clause-follows
 returns-in-Err-clause-follows g c = g.met.D.BytesPartialDecoderTraits.goes_on _ _ _ c.loop-j.invariant.follows c.in-Err.ensures.follows
@@ -210,7 +211,7 @@ returns-in_err-made-clause-given g c = λ honest.
     let region = region_of c.args.given.region.now in
     let s = box_asked (g.I.ArrayToBytesCodecTraits.meaning self.inner_codecs) (elements_of c.args.shard.elements.now) c.args.given.shape.now self.subchunk_shape (unwrap_or (g.D.BytesPartialDecoderTraits.contents c.args.source.now) []) (pairs_in c.args.shard.known.now) (region_of c.args.given.region.now) in
     let count = g.D.BytesPartialDecoderTraits.given_bytes in
-    given_done s c.as_slice-met.result.now (count c.args.source.now) (count c.loop-j.source) c.loop-j.j (c.loop-j.invariant.given honest)
+    given_done s (total_of c.args.shard) c.as_slice-met.result.now (count c.args.source.now) (count c.loop-j.source) c.loop-j.j (c.loop-j.invariant.given honest)
 
 pub returns-clause-given : goal.returns-clause-given
 returns-clause-given g c = λ honest.
@@ -218,7 +219,7 @@ returns-clause-given g c = λ honest.
     let region = region_of c.args.given.region.now in
     let s = box_asked (g.I.ArrayToBytesCodecTraits.meaning self.inner_codecs) (elements_of c.args.shard.elements.now) c.args.given.shape.now self.subchunk_shape (unwrap_or (g.D.BytesPartialDecoderTraits.contents c.args.source.now) []) (pairs_in c.args.shard.known.now) (region_of c.args.given.region.now) in
     let count = g.D.BytesPartialDecoderTraits.given_bytes in
-    given_done s c.as_slice-met.result.now (count c.args.source.now) (count c.loop-j.source) c.loop-j.j (c.loop-j.invariant.given honest)
+    given_done s (total_of c.args.shard) c.as_slice-met.result.now (count c.args.source.now) (count c.loop-j.source) c.loop-j.j (c.loop-j.invariant.given honest)
 
 pub returns-clause-changes : goal.returns-clause-changes
 returns-clause-changes g c = λ honest of cells valid.

@@ -3,7 +3,7 @@ use Rattle.zarr_grids_boxes.specs.Boxes.{product}
 use Rattle.zarr_codecs_arrays.specs.Views.{elements_of, payload_of}
 use Rattle.zarr_codecs_meaning.specs.Encoding.{absent_pair}
 use Rattle.zarr_codecs_meaning.specs.Fits.{fits}
-use Rattle.zarr_sharding_state.specs.States.{pairs_in}
+use Rattle.zarr_sharding_index.specs.Known.{pairs_in}
 use Rattle.zarr_sharding_codec.specs.PartWriting.{Stored, cells_held, group_put, stored_in}
 use Rattle.zarr_sharding_codec.specs.Reading.{ListsRead}
 use Rattle.zarr_sharding_codec.specs.Slices.{StoresPiece}

@@ -3,7 +3,7 @@ use Rattle.std.specs.List.{list_all}
 use Rattle.zarr_codecs_arrays.specs.Views.{elements_of, payload_of}
 use Rattle.zarr_sharding_places.specs.Groups.{no_place}
 use Rattle.std.proofs.Common.{get_or}
-use Rattle.zarr_sharding_state.specs.States.{pairs_in}
+use Rattle.zarr_sharding_index.specs.Known.{pairs_in}
 use Rattle.zarr_sharding_codec.specs.PartWriting.{Stored, positions, stored_in}
 use Rattle.zarr_sharding_codec.proofs.GroupWritten.{IsGroupPut, group_refused, group_stored, group_valid, held_cells}
 use Rattle.zarr_codecs_meaning.specs.Encoding.{absent_pair}

@@ -11,10 +11,11 @@ use Rattle.zarr_sharding_index.specs.Views.{location_of}
 use Rattle.zarr_sharding_places.specs.Groups.{no_place}
 use Rattle.zarr_sharding_places.specs.Locating.{asked_places, part_shape}
 use Rattle.zarr_sharding_places.specs.declared.locating.AskedPlace.{AskedPlace}
-use Rattle.zarr_sharding_state.specs.States.{end_of, pairs_in}
-use Rattle.zarr_sharding_state.specs.Views.{change_of, changes_of, is_below}
-use Rattle.zarr_sharding_state.specs.declared.writing.SliceChange.{SliceChange}
-use Rattle.zarr_sharding_codec.specs.PartWriting.{IsOf, UpdatesGroup, insides, stored_in}
+use Rattle.zarr_sharding_index.specs.Known.{end_of, pairs_in, known_location, known_length}
+use Rattle.zarr_sharding_index.specs.SliceChanges.{change_of, changes_of, is_below}
+use Rattle.zarr_sharding_index.specs.declared.slice_changes.SliceChange.{SliceChange}
+use Rattle.zarr_sharding_codec.specs.PartWriting.{IsOf, UpdatesGroup, given_group, insides, stored_in}
+use Rattle.zarr_sharding_codec.specs.Updating.{total_of}
 use Rattle.zarr_sharding_codec.proofs.NumberedParts.{part_fits}
 use Rattle.zarr_sharding_codec.proofs.GivenSoFar.{GivenSoFar, given_all, given_more, given_refused, none_given, rest_sorted, shard_asked}
 use Rattle.zarr_sharding_codec.proofs.GroupsRead.{AskedShard, IsAsked, insides_below, subchunk_below}
@@ -53,7 +54,7 @@ loop-rest-init g c =
       sorted = subst (λ (ps : List AskedPlace). IsNonDecreasingBy (λ (place : AskedPlace). place.subchunk) ps) (sym c.as_slice-rest.ensures.value) c.in_ok-places.ensures.sorted;
       given = λ honest.
           let s = shard_asked (g.I.ArrayToBytesCodecTraits.meaning self.inner_codecs) (elements_of c.args.shard.elements.now) c.args.given.shape.now self.subchunk_shape (pairs_in c.args.shard.known.now) c.args.given.numbers.now in
-          none_given s (g.D.BytesPartialDecoderTraits.given_bytes c.args.source.now) c.as_slice-rest.result.now;
+          none_given s (total_of c.args.shard) (g.D.BytesPartialDecoderTraits.given_bytes c.args.source.now) c.as_slice-rest.result.now;
     }
 
 pub loop-rest-smaller : goal.loop-rest-smaller
@@ -117,7 +118,7 @@ returns-in_err-lengths-clause-given g c = λ honest.
     let self = c.args.self.now in
     let count = g.D.BytesPartialDecoderTraits.given_bytes in
     let s = shard_asked (g.I.ArrayToBytesCodecTraits.meaning self.inner_codecs) (elements_of c.args.shard.elements.now) c.args.given.shape.now self.subchunk_shape (pairs_in c.args.shard.known.now) c.args.given.numbers.now in
-    given_all s (count c.args.source.now) (count c.loop-rest.source) c.loop-rest.rest.now (c.loop-rest.invariant.given honest)
+    given_all s (total_of c.args.shard) (count c.args.source.now) (count c.loop-rest.source) c.loop-rest.rest.now (c.loop-rest.invariant.given honest)
 
 pub returns-in_err-lengths-clause-follows : goal.returns-in_err-lengths-clause-follows
 returns-in_err-lengths-clause-follows g c = c.loop-rest.invariant.follows
@@ -171,14 +172,14 @@ returns-in-Err-clause-changes g c = λ honest of cells valid.
     let asked = front_asked s exact cells places rest group others writing front in
     let same = laws.same _ _ inv.follows in
     let still = subst IsTrue (laws.honest _ _ inv.follows) honest in
-    let kept = subst (λ (o : Option (List ℕ)). IsOf (location_of c.args.shard.layout.location) c.args.shard.layout.size o (pairs_in c.args.shard.known.now) (end_of c.args.shard.known.now)) same of in
+    let kept = subst (λ (o : Option (List ℕ)). IsOf (known_location c.args.shard.known.now) (known_length c.args.shard.known.now) o (pairs_in c.args.shard.known.now) (end_of c.args.shard.known.now)) same of in
     let here : c.as_slice-edges.result.now ≡ part_shape s.shape s.subchunk (number_of group) = c.as_slice-edges.ensures.value ∙ c.in_ok-lengths.ensures in
     let inside = subst (λ (es : List ℕ). list_all (λ n. nat_lt n (product es)) (insides group) ≡ true) (sym here) (insides_below s group can asked c.leading_group.ensures.one) in
     let found = c.in-Err.ensures.change still kept cells (length c.args.given.numbers.now) valid (positions_below s group asked) inside in
     let e = c.in-Err.error in
     group_unwritten s exact cells places rest group others writing front e
-    (subst (λ (es : List ℕ). UpdatesGroup (stored_in s.inner exact s.elements (g.D.BytesPartialDecoderTraits.contents c.args.source.now) s.pairs) es (number_of group) group cells (Err e)) here
-    (subst (λ (o : Option (List ℕ)). UpdatesGroup (stored_in s.inner exact s.elements o s.pairs) c.as_slice-edges.result.now (number_of group) group cells (Err e)) (sym same) found))
+    (subst (λ (es : List ℕ). UpdatesGroup (stored_in s.inner exact s.elements (g.D.BytesPartialDecoderTraits.contents c.args.source.now) s.pairs) (given_group es (number_of group) group cells) (Err e)) here
+    (subst (λ (o : Option (List ℕ)). UpdatesGroup (stored_in s.inner exact s.elements o s.pairs) (given_group c.as_slice-edges.result.now (number_of group) group cells) (Err e)) (sym same) found))
 
 pub loop-rest-preserved : goal.loop-rest-preserved
 loop-rest-preserved g c =
@@ -219,12 +220,12 @@ loop-rest-preserved g c =
           let asked = front_asked s exact cells places rest group others writing front in
           let same = laws.same _ _ inv.follows in
           let still = subst IsTrue (laws.honest _ _ inv.follows) honest in
-          let kept = subst (λ (o : Option (List ℕ)). IsOf (location_of c.args.shard.layout.location) c.args.shard.layout.size o (pairs_in c.args.shard.known.now) (end_of c.args.shard.known.now)) same of in
+          let kept = subst (λ (o : Option (List ℕ)). IsOf (known_location c.args.shard.known.now) (known_length c.args.shard.known.now) o (pairs_in c.args.shard.known.now) (end_of c.args.shard.known.now)) same of in
           let here : c.as_slice-edges.result.now ≡ part_shape s.shape s.subchunk (number_of group) = c.as_slice-edges.ensures.value ∙ c.in_ok-lengths.ensures in
           let inside = subst (λ (es : List ℕ). list_all (λ n. nat_lt n (product es)) (insides group) ≡ true) (sym here) (insides_below s group can asked c.leading_group.ensures.one) in
           let found = c.in-Ok.ensures.change still kept cells (length c.args.given.numbers.now) valid (positions_below s group asked) inside in
-          let is = subst (λ (es : List ℕ). UpdatesGroup (stored_in s.inner exact s.elements (g.D.BytesPartialDecoderTraits.contents c.args.source.now) s.pairs) es (number_of group) group cells (Ok change)) here
-          (subst (λ (o : Option (List ℕ)). UpdatesGroup (stored_in s.inner exact s.elements o s.pairs) c.as_slice-edges.result.now (number_of group) group cells (Ok change)) (sym same) found) in
+          let is = subst (λ (es : List ℕ). UpdatesGroup (stored_in s.inner exact s.elements (g.D.BytesPartialDecoderTraits.contents c.args.source.now) s.pairs) (given_group es (number_of group) group cells) (Ok change)) here
+          (subst (λ (o : Option (List ℕ)). UpdatesGroup (stored_in s.inner exact s.elements o s.pairs) (given_group c.as_slice-edges.result.now (number_of group) group cells) (Ok change)) (sym same) found) in
           let next = updated_more s exact cells places rest group others (changes_of old) (change_of change) writing front (inv.updated honest of cells valid) is in
           subst (λ cs. UpdatedSoFar s exact cells places others cs) (sym (ap changes_of more ∙ map-append change_of old (change ∷ []))) next;
       sorted = rest_sorted rest group others c.leading_group.ensures.all inv.sorted;
@@ -236,8 +237,8 @@ loop-rest-preserved g c =
           let all = c.leading_group.ensures.all in
           let asked = group_asked t places rest group others moved (record { done = inv.cut.done; split = inv.cut.split }) all in
           let sorted = subst (λ (ps : List AskedPlace). IsNonDecreasingBy (λ (place : AskedPlace). place.subchunk) ps) (sym all) inv.sorted in
-          let was = subst (λ (ps : List AskedPlace). GivenSoFar t (count c.args.source.now) (count c.loop-rest.source) ps) (sym all) (inv.given honest) in
-          given_more t (count c.args.source.now) (count c.loop-rest.source) (count c.update_group.new.source) group others could asked c.leading_group.ensures.some c.leading_group.ensures.next sorted was
+          let was = subst (λ (ps : List AskedPlace). GivenSoFar t (total_of c.args.shard) (count c.args.source.now) (count c.loop-rest.source) ps) (sym all) (inv.given honest) in
+          given_more t (total_of c.args.shard) (count c.args.source.now) (count c.loop-rest.source) (count c.update_group.new.source) group others could asked c.leading_group.ensures.some c.leading_group.ensures.next sorted was
           (c.in-Ok.ensures.given (subst IsTrue (laws.honest _ _ inv.follows) honest));
     }
 
@@ -274,8 +275,8 @@ returns-in_err-push-in-Ok-clause-given g c = λ honest.
     let moved = subst (λ (ps : List AskedPlace). IsPermutation (asked_places s.shape s.subchunk s.numbers) ps) (sym c.as_slice-rest.ensures.value) c.in_ok-places.ensures.all in
     let asked = group_asked s places c.loop-rest.rest.now group others moved (record { done = inv.cut.done; split = inv.cut.split }) all in
     let sorted = subst (λ (ps : List AskedPlace). IsNonDecreasingBy (λ (place : AskedPlace). place.subchunk) ps) (sym all) inv.sorted in
-    let was = subst (λ (ps : List AskedPlace). GivenSoFar s (count c.args.source.now) (count c.loop-rest.source) ps) (sym all) (inv.given honest) in
-    given_refused s (count c.args.source.now) (count c.loop-rest.source) (count c.update_group.new.source) group others can asked c.leading_group.ensures.some c.leading_group.ensures.next sorted was
+    let was = subst (λ (ps : List AskedPlace). GivenSoFar s (total_of c.args.shard) (count c.args.source.now) (count c.loop-rest.source) ps) (sym all) (inv.given honest) in
+    given_refused s (total_of c.args.shard) (count c.args.source.now) (count c.loop-rest.source) (count c.update_group.new.source) group others can asked c.leading_group.ensures.some c.leading_group.ensures.next sorted was
     (c.in-Ok.ensures.given (subst IsTrue (laws.honest _ _ inv.follows) honest))
 
 pub returns-in-Err-clause-given : goal.returns-in-Err-clause-given
@@ -293,8 +294,8 @@ returns-in-Err-clause-given g c = λ honest.
     let moved = subst (λ (ps : List AskedPlace). IsPermutation (asked_places s.shape s.subchunk s.numbers) ps) (sym c.as_slice-rest.ensures.value) c.in_ok-places.ensures.all in
     let asked = group_asked s places c.loop-rest.rest.now group others moved (record { done = inv.cut.done; split = inv.cut.split }) all in
     let sorted = subst (λ (ps : List AskedPlace). IsNonDecreasingBy (λ (place : AskedPlace). place.subchunk) ps) (sym all) inv.sorted in
-    let was = subst (λ (ps : List AskedPlace). GivenSoFar s (count c.args.source.now) (count c.loop-rest.source) ps) (sym all) (inv.given honest) in
-    given_refused s (count c.args.source.now) (count c.loop-rest.source) (count c.update_group.new.source) group others can asked c.leading_group.ensures.some c.leading_group.ensures.next sorted was
+    let was = subst (λ (ps : List AskedPlace). GivenSoFar s (total_of c.args.shard) (count c.args.source.now) (count c.loop-rest.source) ps) (sym all) (inv.given honest) in
+    given_refused s (total_of c.args.shard) (count c.args.source.now) (count c.loop-rest.source) (count c.update_group.new.source) group others can asked c.leading_group.ensures.some c.leading_group.ensures.next sorted was
     (c.in-Err.ensures.given (subst IsTrue (laws.honest _ _ inv.follows) honest))
 
 pub returns-clause-given : goal.returns-clause-given
@@ -302,4 +303,4 @@ returns-clause-given g c = λ honest.
     let self = c.args.self.now in
     let count = g.D.BytesPartialDecoderTraits.given_bytes in
     let s = shard_asked (g.I.ArrayToBytesCodecTraits.meaning self.inner_codecs) (elements_of c.args.shard.elements.now) c.args.given.shape.now self.subchunk_shape (pairs_in c.args.shard.known.now) c.args.given.numbers.now in
-    given_all s (count c.args.source.now) (count c.loop-rest.source) c.loop-rest.rest.now (c.loop-rest.invariant.given honest)
+    given_all s (total_of c.args.shard) (count c.args.source.now) (count c.loop-rest.source) c.loop-rest.rest.now (c.loop-rest.invariant.given honest)

@@ -1,6 +1,0 @@
-pub mod Reshapes
-pub mod Views
-pub mod ArrayChains
-pub mod Metadata
-pub mod Refusals
-pub mod Pieces

@@ -1,0 +1,17 @@
+use Rattle.std.proofs.Common.{map}
+use Rattle.zarr_grids_metadata.specs.Views.{point_of}
+use Rattle.zarr_codecs_chains.specs.Views.{meaning_of}
+use Rattle.zarr_sharding_chains.specs.Views.{sharded_meaning}
+use Rattle.zarr_sharding_chains.proofs.ShardsNest.{nested_array, nested_refused, no_nested}
+use Rattle.zarr_sharding_chains.proofs.array_chain.read_nested.Goals as goal
+
+pub returns-in-Ok-clause-ok : goal.returns-in-Ok-clause-ok
+returns-in-Ok-clause-ok g c =
+    let b = g.B.BytesToBytesCodecTraits in
+    nested_array b.reads (map point_of c.args.codecs.now) (sharded_meaning (sharded_meaning (meaning_of b.meaning) b.meaning) b.meaning c.in-Ok.chain) c.in-Ok.ensures.ok
+
+pub returns-in-Err-clause-err : goal.returns-in-Err-clause-err
+returns-in-Err-clause-err g c = λ stands nest other. no_nested g.B.BytesToBytesCodecTraits.reads (map point_of c.args.codecs.now) stands nest (c.in-Err.ensures.err other)
+
+pub returns-in-Err-clause-refused : goal.returns-in-Err-clause-refused
+returns-in-Err-clause-refused g c = λ stands nest other. nested_refused g.B.BytesToBytesCodecTraits.reads (map point_of c.args.codecs.now) c.in-Err.error stands nest (c.in-Err.ensures.refused other)

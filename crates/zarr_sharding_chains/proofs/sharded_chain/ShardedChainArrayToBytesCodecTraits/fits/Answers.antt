@@ -1,0 +1,13 @@
+use Rattle.std.proofs.Common.{◌≡◌, List, subst}
+use Rattle.std.specs.Prelude.{IfOk}
+use Rattle.zarr_codecs_meaning.specs.Fits.{fits}
+use Rattle.zarr_codecs_types.specs.Views.{type_of}
+use Rattle.zarr_codecs_array_to_array.specs.declared.codec.ArrayToArrayCodec.{ArrayToArrayCodec}
+use Rattle.zarr_codecs_around.specs.Views.{codecs_of, with_array_codecs}
+use Rattle.zarr_sharding_chains.specs.Views.{others_meaning}
+use Rattle.zarr_sharding_chains.proofs.sharded_chain.ShardedChainArrayToBytesCodecTraits.fits.Goals as goal
+
+pub returns : goal.returns
+returns g c =
+    let rest = others_meaning g.I.ArrayToBytesCodecTraits.meaning g.B.BytesToBytesCodecTraits.meaning c.args.self.now in
+    subst (λ (codecs : List ArrayToArrayCodec). IfOk c.fits_after.result (λ fit. fit ≡ fits (with_array_codecs (codecs_of codecs) rest) (type_of c.args.data_type.now) c.args.shape.now)) c.as_slice-codecs.ensures.value c.fits_after.ensures

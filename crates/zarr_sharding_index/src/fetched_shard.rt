@@ -1,0 +1,101 @@
+//! What is known of a shard once its index is fetched.
+ghost use Rattle.std.specs.Prelude.{◌≡◌, ◌^◌, ◌<◌, ◌%◌, IfOk};
+ghost use Rattle.std.specs.List.{list_all};
+ghost use Rattle.zarr_sharding_index.specs.Present.{all_pairs};
+ghost use Rattle.zarr_sharding_index.specs.Views.{location_of, pair_of};
+ghost use Rattle.zarr_sharding_index.specs.Held.{lies_between};
+ghost use Rattle.zarr_sharding_index.specs.Opened.{Opens, data_end, IsLaid};
+ghost use Rattle.zarr_grids_boxes.specs.Boxes.{product};
+
+use crate::fetched_index::{FetchedIndex, IndexLayout};
+use crate::known_shard::KnownShard;
+use crate::location::ShardingIndexLocation;
+use crate::pair::is_absent;
+use crate::present::PresentPairs;
+use std::alloc::Global;
+use zarr_codecs_arrays::CodecError;
+use zarr_codecs_traits::ByteRange;
+use zarr_grids_boxes::walk::count_places;
+
+/// The index of a shard and where its data part ends, where each present pair lies in that.
+/// `Damage` where one doesn't, and `Size` where the data part ends past 2^63 - 1 bytes.
+pub(crate) fn open_fetched(
+    alloc: Global,
+    fetched: Option<FetchedIndex>,
+    layout: IndexLayout<'_>,
+) -> Result<KnownShard, CodecError>
+    requires low { layout.size < 2 ^ 63 }
+    requires even { product layout.shape.now % 2 ≡ 0 }
+    ensures opens { Opens (location_of layout.entry.location) layout.entry.shape.now
+        layout.entry.size fetched result }
+    ensures laid { IfOk result (IsLaid (location_of layout.entry.location)
+        layout.entry.shape.now layout.entry.size) }
+{
+    let Some(count) = count_places(layout.shape) else {
+        return Err(CodecError::Memory);
+    };
+    let (location, size) = (layout.location, layout.size);
+    let shape = layout.shape.to_vec(alloc)?;
+    let base = location.base(size);
+    let Some(found) = fetched else {
+        let pairs = PresentPairs::all_absent(alloc, (count / 2) as usize);
+        return Ok(KnownShard {
+            pairs,
+            end: base,
+            location,
+            shape,
+            size,
+        });
+    };
+    let Some(end) = data_end(location, size, found.total) else {
+        return Err(CodecError::Damage);
+    };
+    if found.pairs.len() as u64 != count / 2 || !all_lie_between(&found.pairs, base, end) {
+        return Err(CodecError::Damage);
+    }
+    if end > 0x7fff_ffff_ffff_ffff {
+        return Err(CodecError::Size);
+    }
+    Ok(KnownShard {
+        pairs: found.pairs,
+        end,
+        location,
+        shape,
+        size,
+    })
+}
+
+/// Where the data part ends of a shard of so many bytes, or `None` where these are fewer than those
+/// of its index.
+fn data_end(location: ShardingIndexLocation, size: u64, total: u64) -> Option<u64>
+    ensures { result ≡ data_end (location_of location) size total }
+{
+    let rest = total.checked_sub(size)?;
+    match location {
+        ShardingIndexLocation::Start => Some(total),
+        ShardingIndexLocation::End => Some(rest),
+    }
+}
+
+/// Whether each present pair lies in a data part from `base` to `end`.
+fn all_lie_between(pairs: &PresentPairs, base: u64, end: u64) -> bool
+    ensures { result ≡ list_all (lies_between base end) (all_pairs pairs.now) }
+{
+    let present = pairs.present();
+    for pair in present {
+        if !lies_between(pair.range, base, end) {
+            return false;
+        }
+    }
+    true
+}
+
+/// Whether a pair is absent, or lies in a data part from `base` to `end`.
+fn lies_between(pair: ByteRange, base: u64, end: u64) -> bool
+    ensures { result ≡ lies_between base end (pair_of pair) }
+{
+    match pair.offset.checked_add(pair.length) {
+        Some(last) if base <= pair.offset && last <= end => true,
+        _ => is_absent(pair),
+    }
+}

@@ -1,0 +1,11 @@
+pub mod Shards
+pub mod Pairs
+pub mod Opened
+pub mod Parts
+pub mod Decoders
+pub mod Laws
+pub mod Tables
+pub mod Puts
+pub mod OpeningRefused
+pub mod States
+pub mod Calls

@@ -1,7 +1,0 @@
-pub mod Held
-pub mod Written
-pub mod Views
-pub mod Laws
-pub mod States
-pub mod Opened
-pub mod Calls
