@@ -1,15 +1,15 @@
 -- All places of an array read alone are what its value is decoded to: where it isn't decoded, a place is lost.
 use Rattle.std.proofs.Common.{◌≡◌, ◌∙◌, ◌⊎◌, inl, inr, ℕ, zero, suc, ◌+◌, ◌-◌, ◌*◌, ◌/◌, ◌<◌, ◌≤◌, min, List, [], ◌∷◌, length, map, get_or, slice_get, replicate, ap, sym, refl, arith, Option, Some, None, option_and_then, option_map, Bool, true, false, ◌&&◌, if◌then◌else◌}
-use Rattle.std.specs.Prelude.{nat_lt, nat_le}
-use Rattle.std.specs.List.{list_all, range_with_len}
 use Rattle.std.proofs.Math.Nat.{le-div_iff_mul-le, mul-le-mul}
 use Rattle.std.proofs.lemmas.Bool.{and_parts, le-ltb, lt-ltb, ltb-false, ltb-true}
 use Rattle.std.proofs.lemmas.List.FromFn.{fill_by_all, get_or-range_with_len, length-range_with_len}
+use Rattle.std.specs.Prelude.{nat_lt, nat_le}
+use Rattle.std.specs.List.{list_all, range_with_len}
 use Rattle.zarr_grids_boxes.specs.Boxes.{product, place_at, IsIndex}
 use Rattle.zarr_grids_boxes.proofs.Dimensions.{IsIndex-tail}
 use Rattle.zarr_codecs_meaning.specs.Chains.{Chain, Location}
 use Rattle.zarr_codecs_meaning.specs.Chains.Chain.{bytes, packbits, vlen, optional, after_array_codec, then_bytes, sharded}
-use Rattle.zarr_codecs_meaning.specs.Decoding.{all_there, cell_at, cell_of_part, decoded, element_at, index_bytes, is_absent, is_whole, opens, pairs_in, pairs_of_cells, part_decoded, pieces_decoded, slice_at}
+use Rattle.zarr_codecs_meaning.specs.Decoding.{all_there, cell_at, cell_of_part, decoded, element_at, index_bytes, is_absent, is_whole, opens, pairs_in, pairs_of_cells, part_decoded, pieces_decoded, slice_at, cell_of_pair}
 use Rattle.zarr_codecs_meaning.specs.Encoding.{Pair, absent_pair, index_size}
 use Rattle.zarr_codecs_meaning.specs.Fits.{array_codec_fits, can_cut, fits}
 use Rattle.zarr_codecs_meaning.specs.Keeping.{arranged}
@@ -140,7 +140,7 @@ abbrev pair_cell : (List ℕ → List ℕ → ℕ → Option Cell) → Cell → 
 pair_cell read fill value shape pair i = if is_absent pair then Some fill else option_and_then (λ slice. read shape slice i) (slice_at value pair)
 
 met_cell : (read : List ℕ → List ℕ → ℕ → Option Cell) (fill : Cell) (value : List ℕ) (n : ℕ) (parts : List Part) (pairs : List Pair) (k i : ℕ) → length pairs ≡ length parts → IsFirst parts n k i
-    → cell_of_part read fill value n parts pairs ≡ pair_cell read fill value (get_or parts k no_part).shape (get_or pairs k absent_pair) i
+    → cell_of_part (cell_of_pair read fill value) n parts pairs ≡ pair_cell read fill value (get_or parts k no_part).shape (get_or pairs k absent_pair) i
 met_cell read fill value n [] pairs k i same is = let p = is.part in absurd (omega arith)
 met_cell read fill value n (part ∷ parts) [] k i same is = absurd (omega (arith, same))
 met_cell read fill value n (part ∷ parts) (pair ∷ pairs) zero i same is =
@@ -148,12 +148,12 @@ met_cell read fill value n (part ∷ parts) (pair ∷ pairs) zero i same is =
     let here = is.here in
     let within = is.inside in
     let low : nat_lt q (length part.places) ≡ true = lt-ltb q (length part.places) (omega (arith, here, within)) in
-    ap (λ (b : Bool). elim b [ true ↦ pair_cell read fill value part.shape pair q | false ↦ cell_of_part read fill value n parts pairs ]) low ∙ ap (pair_cell read fill value part.shape pair) is.here
+    ap (λ (b : Bool). elim b [ true ↦ pair_cell read fill value part.shape pair q | false ↦ cell_of_part (cell_of_pair read fill value) n parts pairs ]) low ∙ ap (pair_cell read fill value part.shape pair) is.here
 met_cell read fill value n (part ∷ parts) (pair ∷ pairs) (suc k) i same is =
     let q = position_of n part.places in
     let below = is.part in
     let past : nat_lt q (length part.places) ≡ false = le-ltb q (length part.places) (is.before 0 (omega arith)) in
-    ap (λ (b : Bool). elim b [ true ↦ pair_cell read fill value part.shape pair q | false ↦ cell_of_part read fill value n parts pairs ]) past
+    ap (λ (b : Bool). elim b [ true ↦ pair_cell read fill value part.shape pair q | false ↦ cell_of_part (cell_of_pair read fill value) n parts pairs ]) past
     ∙ met_cell read fill value n parts pairs k i (omega (arith, same)) (record { part = omega (arith, below); here = is.here; inside = is.inside; before = λ j low. is.before (suc j) (omega (arith, low)) })
 
 at_most : (b : Bool) (m c : ℕ) → nat_lt m c ≡ b → (m < c → ⊥) → c ≤ m
@@ -181,7 +181,7 @@ first_here shape subchunk n k i cuts is here =
 shard_lost : (inner : Chain) (elements : Elements) (shape subchunk value : List ℕ) (ps : List Pair) → can_cut shape subchunk ≡ true → length ps ≡ length (parts_of shape subchunk)
     → ((k : ℕ) → k < length (parts_of shape subchunk) → (slice : List ℕ) → decoded inner elements (get_or (parts_of shape subchunk) k no_part).shape slice ≡ None
     → Loses (product (get_or (parts_of shape subchunk) k no_part).shape) (cell_at inner elements (get_or (parts_of shape subchunk) k no_part).shape slice))
-    → pieces_decoded (decoded inner elements) elements.fill value (parts_of shape subchunk) ps ≡ None → Loses (product shape) (λ n. cell_of_part (cell_at inner elements) elements.fill value n (parts_of shape subchunk) ps)
+    → pieces_decoded (decoded inner elements) elements.fill value (parts_of shape subchunk) ps ≡ None → Loses (product shape) (λ n. cell_of_part (cell_of_pair (cell_at inner elements) elements.fill value) n (parts_of shape subchunk) ps)
 shard_lost inner elements shape subchunk value ps cuts many law h =
     let parts = parts_of shape subchunk in
     let fill = elements.fill in
@@ -226,7 +226,7 @@ undecoded_loses (sharded subchunk inner index location) elements shape value fit
     let pieces = λ (ps : List Pair). pieces_decoded (decoded inner elements) fill value parts ps in
     let f = fitted subchunk inner index location elements shape fit in
     let fits_each = each_passes (λ (part : Part). fits inner elements.type part.shape) parts f.each in
-    lost_behind (pairs_in (decoded index (zero_filled uint64) pairs_shape) location (index_size index pairs_shape) value) (λ ps. option_map arrange (pieces ps)) (λ ps n. cell_of_part (cell_at inner elements) fill value n parts ps) (product shape) some
+    lost_behind (pairs_in (decoded index (zero_filled uint64) pairs_shape) location (index_size index pairs_shape) value) (λ ps. option_map arrange (pieces ps)) (λ ps n. cell_of_part (cell_of_pair (cell_at inner elements) fill value) n parts ps) (product shape) some
     (λ ps is lost.
     shard_lost inner elements shape subchunk value ps f.cuts (pairs_many index location shape subchunk value ps is)
     (λ k below slice gone.

@@ -24,7 +24,7 @@ use Rattle.zarr_codecs_boxes.proofs.Numbers.{moved_in}
 use Rattle.zarr_codecs_boxes.proofs.Puts.{length-numbers}
 use Rattle.zarr_codecs_around.specs.ArrayCodecs.{all_fit}
 use Rattle.zarr_codecs_around.specs.Boxes.{takes_any_order}
-use Rattle.zarr_codecs_around.specs.MovedBoxes.{IsBoxAfter, IsNextBox, IsTurnedTo, MovesBox, MovesBoxes, TurnsBox, UndoesBox}
+use Rattle.zarr_codecs_around.specs.MovedBoxes.{IsBoxAfter, IsNextBox, IsTurnedTo, MovesBox, MovesBoxes, TurnsBox, UndoesBox, box_payload, array_box}
 use Rattle.zarr_codecs_around.specs.Parts.{SourceWrite, WritesPart}
 use Rattle.zarr_codecs_around.specs.Views.{with_array_codecs}
 use Rattle.zarr_codecs_around.proofs.AllArrayCodecs.{never_before, with_more}
@@ -92,7 +92,7 @@ pub record IsTurnedLeft (left whole : List ArrayCodec) (elements : Elements) (sh
   pub box : IsBoxIn now place
   pub many : product now ≡ product shape
   pub invalid : (e : CodecError) → IsInvalid elements.type turned (product place.shape) e → IsInvalid elements.type payload (product region.shape) e
-  pub turns : (last : List ℕ) (moved : Region) (made : Payload) → IsTurnedTo left elements now place turned last moved made → IsTurnedTo whole elements shape region payload last moved made
+  pub turns : (last : List ℕ) (moved : Region) (made : Payload) → IsTurnedTo left elements (box_payload now place turned) (box_payload last moved made) → IsTurnedTo whole elements (box_payload shape region payload) (box_payload last moved made)
 
 pub turned_less : (codec : ArrayCodec) (others whole : List ArrayCodec) (elements : Elements) (shape : List ℕ) (region : Region) (payload : Payload) (now : List ℕ) (place : Region) (turned : Payload) (next : List ℕ) (moved : Region) (made : Payload)
     → is_value elements.type elements.fill ≡ true → IsTurnedLeft (codec ∷ others) whole elements shape region payload now place turned → IsNextBox codec now place next moved → IsTurned codec elements place turned made
@@ -105,7 +105,7 @@ turned_less codec others whole elements shape region payload now place turned ne
       box = subst (λ es. IsBoxIn es moved) (sym step.shape_is) b.inside;
       many = ap product step.shape_is ∙ (array_codec_places codec now step.fit ∙ left.many);
       invalid = λ e why. absurd (turned_valid codec elements now place moved turned made e fill b m (subst (λ n. IsInvalid elements.type made n e) (sym many) why));
-      turns = λ last after all h. left.turns last after all (record { next = moved; turned = made; fit = step.fit; region_is = step.region_is; moves = m; rest = subst (λ es. IsTurnedTo others elements es moved made last after all) step.shape_is h });
+      turns = λ last after all h. left.turns last after all (record { next = moved; turned = made; fit = step.fit; region_is = step.region_is; moves = m; rest = subst (λ es. IsTurnedTo others elements (box_payload es moved made) (box_payload last after all)) step.shape_is h });
     }
 
 pub turned_all_left : (codecs : List ArrayCodec) (elements : Elements) (shape : List ℕ) (region : Region) (payload : Payload) (now : List ℕ) (place : Region) → now ≡ shape → place ≡ region → IsBoxIn shape region → IsTurnedLeft codecs codecs elements shape region payload now place payload
@@ -114,19 +114,19 @@ turned_all_left codecs elements shape region payload now place same at box = rec
   box = subst (λ es. IsBoxIn es place) (sym same) (subst (λ r. IsBoxIn shape r) (sym at) box);
   many = ap product same;
   invalid = λ e why. subst (λ (r : Region). IsInvalid elements.type payload (product r.shape) e) at why;
-  turns = λ last moved made h. subst (λ es. IsTurnedTo codecs elements es region payload last moved made) same (subst (λ r. IsTurnedTo codecs elements now r payload last moved made) at h);
+  turns = λ last moved made h. subst (λ es. IsTurnedTo codecs elements (box_payload es region payload) (box_payload last moved made)) same (subst (λ r. IsTurnedTo codecs elements (box_payload now r payload) (box_payload last moved made)) at h);
 }
 
 -- a codec that does not suit the shape that reaches it
 pub turned_unboxed : (codec : ArrayCodec) (others whole : List ArrayCodec) (elements : Elements) (shape : List ℕ) (region : Region) (payload : Payload) (now : List ℕ) (place : Region) (e : CodecError) → all_fit (codec ∷ others) now ≡ all_fit whole shape → MovesBox codec now place (Err e)
-    → TurnsBox whole elements shape region payload (Err e)
+    → TurnsBox whole elements (box_payload shape region payload) (Err e)
 turned_unboxed codec others whole elements shape region payload now place error.Fit left none = none_fit codec others whole shape now none left
 turned_unboxed codec others whole elements shape region payload now place error.Memory left h = tt
 turned_unboxed codec others whole elements shape region payload now place e left h = absurd h
 
 -- elements that a codec does not move
 pub turned_refused : (codec : ArrayCodec) (others whole : List ArrayCodec) (elements : Elements) (shape : List ℕ) (region : Region) (payload : Payload) (now : List ℕ) (place : Region) (turned : Payload) (next : List ℕ) (moved : Region) (e : CodecError)
-    → IsTurnedLeft (codec ∷ others) whole elements shape region payload now place turned → IsNextBox codec now place next moved → EncodesArray codec elements place.shape turned (Err e) → TurnsBox whole elements shape region payload (Err e)
+    → IsTurnedLeft (codec ∷ others) whole elements shape region payload now place turned → IsNextBox codec now place next moved → EncodesArray codec elements place.shape turned (Err e) → TurnsBox whole elements (box_payload shape region payload) (Err e)
 turned_refused codec others whole elements shape region payload now place turned next moved error.Fit left step h =
     let b = moved_box codec now place moved step.fit left.box step.region_is in
     absurd (let e = sym b.fits ∙ h in cc)
@@ -135,19 +135,19 @@ turned_refused codec others whole elements shape region payload now place turned
 turned_refused codec others whole elements shape region payload now place turned next moved error.Memory left step h = tt
 turned_refused codec others whole elements shape region payload now place turned next moved e left step h = left.invalid e h.1
 
-pub turned_inside : (codecs : List ArrayCodec) (elements : Elements) (shape : List ℕ) (region : Region) (payload : Payload) (last : List ℕ) (moved : Region) (made : Payload) → IsBoxIn shape region → IsTurnedTo codecs elements shape region payload last moved made → IsBoxIn last moved
+pub turned_inside : (codecs : List ArrayCodec) (elements : Elements) (shape : List ℕ) (region : Region) (payload : Payload) (last : List ℕ) (moved : Region) (made : Payload) → IsBoxIn shape region → IsTurnedTo codecs elements (box_payload shape region payload) (box_payload last moved made) → IsBoxIn last moved
 turned_inside [] elements shape region payload last moved made box h = subst (λ es. IsBoxIn es moved) (sym h.0) (subst (λ r. IsBoxIn shape r) (sym h.1) box)
 turned_inside (codec ∷ codecs) elements shape region payload last moved made box h =
     turned_inside codecs elements (encoded_shape codec shape) h.next h.turned last moved made (moved_in codec shape region h.next h.fit box h.region_is) h.rest
 
-pub turned_places : (codecs : List ArrayCodec) (elements : Elements) (shape : List ℕ) (region : Region) (payload : Payload) (last : List ℕ) (moved : Region) (made : Payload) → IsTurnedTo codecs elements shape region payload last moved made → product last ≡ product shape
+pub turned_places : (codecs : List ArrayCodec) (elements : Elements) (shape : List ℕ) (region : Region) (payload : Payload) (last : List ℕ) (moved : Region) (made : Payload) → IsTurnedTo codecs elements (box_payload shape region payload) (box_payload last moved made) → product last ≡ product shape
 turned_places [] elements shape region payload last moved made h = ap product h.0
 turned_places (codec ∷ codecs) elements shape region payload last moved made h = turned_places codecs elements (encoded_shape codec shape) h.next h.turned last moved made h.rest ∙ array_codec_places codec shape h.fit
 
 -- ---- what is written
 
 pub boxes_written : (codecs : List ArrayCodec) (chain : Chain) (exact : Bool) (elements : Elements) (shape : List ℕ) (region : Region) (payload : Payload) (last : List ℕ) (moved : Region) (made : Payload) (old new : Option (List ℕ)) → IsBoxIn shape region
-    → IsTurnedTo codecs elements shape region payload last moved made → ((cells : List Cell) × IsEncodedInto (coded chain elements last) exact (update_of (in_box moved) made old) cells new)
+    → IsTurnedTo codecs elements (box_payload shape region payload) (box_payload last moved made) → ((cells : List Cell) × IsEncodedInto (coded chain elements last) exact (update_of (in_box moved) made old) cells new)
     → (cells : List Cell) × IsEncodedInto (coded (with_array_codecs codecs chain) elements shape) exact (update_of (in_box region) payload old) cells new
 boxes_written [] chain exact elements shape region payload last moved made old new box h w = (
   w.0,
@@ -160,7 +160,7 @@ boxes_written (codec ∷ codecs) chain exact elements shape region payload last 
     (h.moves.cells, box_written codec (with_array_codecs codecs chain) exact elements shape region h.next payload h.turned inner.0 old new b h.moves inner.1)
 
 pub boxes_writes : {A : Type 0} (codecs : List ArrayCodec) (chain : Chain) (elements : Elements) (shape : List ℕ) (region : Region) (payload : Payload) (last : List ℕ) (moved : Region) (made : Payload) (stored : Option (List ℕ)) (source : SourceWrite) (r : Result A CodecError)
-    → is_value elements.type elements.fill ≡ true → IsBoxIn shape region → IsTurnedTo codecs elements shape region payload last moved made → encodes_in_part (with_array_codecs codecs chain) ≡ encodes_in_part chain
+    → is_value elements.type elements.fill ≡ true → IsBoxIn shape region → IsTurnedTo codecs elements (box_payload shape region payload) (box_payload last moved made) → encodes_in_part (with_array_codecs codecs chain) ≡ encodes_in_part chain
     → WritesPart (coded chain elements last) (update_of (in_box moved) made stored) source r → WritesPart (coded (with_array_codecs codecs chain) elements shape) (update_of (in_box region) payload stored) source r
 boxes_writes [] chain elements shape region payload last moved made stored source r fill box h partly w =
     subst (λ es. WritesPart (coded chain elements es) (update_of (in_box region) payload stored) source r) h.0
@@ -173,7 +173,7 @@ boxes_writes (codec ∷ codecs) chain elements shape region payload last moved m
 
 -- elements that are not moved are not written
 pub unturned_into : (codecs : List ArrayCodec) (chain : Chain) (elements : Elements) (shape : List ℕ) (region : Region) (payload : Payload) (stored : Option (List ℕ)) (e : CodecError) → IsBoxIn shape region → fits (with_array_codecs codecs chain) elements.type shape ≡ true
-    → TurnsBox codecs elements shape region payload (Err e) → NotEncodedInto {A = Unit {0}} (coded (with_array_codecs codecs chain) elements shape) (update_of (in_box region) payload stored) (Err e)
+    → TurnsBox codecs elements (box_payload shape region payload) (Err e) → NotEncodedInto {A = Unit {0}} (coded (with_array_codecs codecs chain) elements shape) (update_of (in_box region) payload stored) (Err e)
 unturned_into codecs chain elements shape region payload stored error.Fit box fit h = sym (never_before codecs chain elements.type shape h)
 unturned_into codecs chain elements shape region payload stored error.Size box fit h = inl h
 unturned_into codecs chain elements shape region payload stored error.Memory box fit h = tt
@@ -183,7 +183,7 @@ unturned_into codecs chain elements shape region payload stored error.Damage box
 unturned_into codecs chain elements shape region payload stored error.IncompatibleIndexer box fit h = absurd h
 unturned_into codecs chain elements shape region payload stored e box fit h = (fit, subst (λ n. IsInvalid elements.type payload n e) (sym (length-numbers shape region (sym box.dimensions))) h)
 
-pub unturned_source : (A : Type 0) (codecs : List ArrayCodec) (elements : Elements) (shape : List ℕ) (region : Region) (payload : Payload) (e : CodecError) → TurnsBox codecs elements shape region payload (Err e) → (count : ℕ) → refused_after {A = A} count (Err e) ≡ count
+pub unturned_source : (A : Type 0) (codecs : List ArrayCodec) (elements : Elements) (shape : List ℕ) (region : Region) (payload : Payload) (e : CodecError) → TurnsBox codecs elements (box_payload shape region payload) (Err e) → (count : ℕ) → refused_after {A = A} count (Err e) ≡ count
 unturned_source A codecs elements shape region payload error.Source h count = absurd h
 unturned_source A codecs elements shape region payload e h count = refl
 
@@ -228,12 +228,12 @@ boxes_most (codec ∷ first) last chain type shape stored region mid between tak
 
 -- ---- elements that are moved back
 
-pub undoes_none : (elements : Elements) (shape : List ℕ) (region : Region) (found : ArrayBytes) → UndoesBox [] elements shape region found (Ok found)
+pub undoes_none : (elements : Elements) (shape : List ℕ) (region : Region) (found : ArrayBytes) → UndoesBox [] elements (array_box shape region) found (Ok found)
 undoes_none elements shape region found = λ chain stored last moved h d.
     subst (λ es. DecodesPart (coded chain elements es) stored (in_box region) (Ok found)) h.0 (subst (λ (r : Region). DecodesPart (coded chain elements last) stored (in_box r) (Ok found)) h.1 d)
 
 pub undoes_one : (codec : ArrayCodec) (elements : Elements) (shape : List ℕ) (region : Region) (found : ArrayBytes) (r : Result ArrayBytes CodecError) → is_value elements.type elements.fill ≡ true → IsBoxIn shape region → DecodesArray codec elements region.shape (payload_of found) r
-    → UndoesBox (codec ∷ []) elements shape region found r
+    → UndoesBox (codec ∷ []) elements (array_box shape region) found r
 undoes_one codec elements shape region found r fill box undone = λ chain stored last moved h d.
     let b = moved_box codec shape region h.next h.fit box h.region_is in
     let read = subst (λ es. DecodesPart (coded chain elements es) stored (in_box h.next) (Ok found)) h.rest.0 (subst (λ (m : Region). DecodesPart (coded chain elements last) stored (in_box m) (Ok found)) h.rest.1 d) in
@@ -246,20 +246,20 @@ undone_source codec elements shape payload (Err e) h count = refl
 
 -- elements that the last codecs moved back, and then the first
 pub undoes_both : (first last : List ArrayCodec) (elements : Elements) (shape : List ℕ) (region : Region) (mid : List ℕ) (between : Region) (found moved : ArrayBytes) (r : Result ArrayBytes CodecError) → IsBoxAfter first shape region mid between
-    → UndoesBox last elements mid between found (Ok moved) → UndoesBox first elements shape region moved r → UndoesBox (first ++ last) elements shape region found r
+    → UndoesBox last elements (array_box mid between) found (Ok moved) → UndoesBox first elements (array_box shape region) moved r → UndoesBox (first ++ last) elements (array_box shape region) found r
 undoes_both first last elements shape region mid between found moved r at second one = λ chain stored end place h d.
     subst (λ (whole : Chain). DecodesPart (coded whole elements shape) stored (in_box region) r) (sym (with_more first last chain))
     (one (with_array_codecs last chain) stored mid between at (second chain stored end place (box_split first last shape region mid between end place at h) d))
 
 -- or that the last did not
 pub undoes_first : (first last : List ArrayCodec) (elements : Elements) (shape : List ℕ) (region : Region) (mid : List ℕ) (between : Region) (found : ArrayBytes) (e : CodecError) → IsBoxIn shape region → IsBoxAfter first shape region mid between
-    → UndoesBox last elements mid between found (Err e) → UndoesBox (first ++ last) elements shape region found (Err e)
+    → UndoesBox last elements (array_box mid between) found (Err e) → UndoesBox (first ++ last) elements (array_box shape region) found (Err e)
 undoes_first first last elements shape region mid between found e box at second = λ chain stored end place h d.
     subst (λ (whole : Chain). DecodesPart (coded whole elements shape) stored (in_box region) (Err e)) (sym (with_more first last chain))
     (boxes_unread first (with_array_codecs last chain) elements shape stored region mid between e box at (second chain stored end place (box_split first last shape region mid between end place at h) d))
 
 -- or that there is no box after the first
-pub undoes_unboxed : (first last : List ArrayCodec) (elements : Elements) (shape : List ℕ) (region : Region) (found : ArrayBytes) (e : CodecError) → MovesBoxes first shape region (Err e) → UndoesBox (first ++ last) elements shape region found (Err e)
+pub undoes_unboxed : (first last : List ArrayCodec) (elements : Elements) (shape : List ℕ) (region : Region) (found : ArrayBytes) (e : CodecError) → MovesBoxes first shape region (Err e) → UndoesBox (first ++ last) elements (array_box shape region) found (Err e)
 undoes_unboxed first last elements shape region found e none = λ chain stored end place h d.
     subst (λ (whole : Chain). DecodesPart (coded whole elements shape) stored (in_box region) (Err e)) (sym (with_more first last chain))
     (unboxed_read first (with_array_codecs last chain) elements shape stored region (in_box region) e none)

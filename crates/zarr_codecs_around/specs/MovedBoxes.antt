@@ -53,30 +53,50 @@ MovesBoxes codecs shape region (Err error.Fit) = all_fit codecs shape ≡ false
 MovesBoxes codecs shape region (Err error.Memory) = Unit {0}
 MovesBoxes codecs shape region (Err e) = ⊥
 
+-- a box of an array: the array's shape, and the box
+pub record ArrayBox : Type 0 where
+  pub shape : List ℕ
+  pub region : Region
+
+-- this box of an array of this shape
+abbrev pub array_box : List ℕ → Region → ArrayBox
+array_box shape region = record { shape = shape; region = region }
+
+-- a box of an array and its elements: the array's shape, the box, and the elements of its places, row-major
+pub record BoxPayload : Type 0 where
+  pub shape : List ℕ
+  pub region : Region
+  pub payload : Payload
+
+-- these elements of a box of an array of this shape
+abbrev pub box_payload : List ℕ → Region → Payload → BoxPayload
+box_payload shape region payload = record { shape = shape; region = region; payload = payload }
+
 -- a box that an array codec makes of another one, its elements moved as those of an array of the box's shape, and what holds of both after the codec
-pub record IsTurnedThen (codec : ArrayCodec) (elements : Elements) (shape : List ℕ) (region : Region) (payload : Payload) (after : List ℕ → Region → Payload → Type 0) : Type 0 where
+pub record IsTurnedThen (codec : ArrayCodec) (elements : Elements) (before : BoxPayload) (after : BoxPayload → Type 0) : Type 0 where
   pub next : Region
   pub turned : Payload
-  pub fit : array_codec_fits codec shape ≡ true
-  pub region_is : encoded_region codec shape region ≡ Some next
-  pub moves : IsMoved (moving codec elements region.shape (product region.shape) (source_places codec region.shape)) payload turned
-  pub rest : after (encoded_shape codec shape) next turned
+  pub fit : array_codec_fits codec before.shape ≡ true
+  pub region_is : encoded_region codec before.shape before.region ≡ Some next
+  pub moves : IsMoved (moving codec elements before.region.shape (product before.region.shape) (source_places codec before.region.shape)) before.payload turned
+  pub rest : after (box_payload (encoded_shape codec before.shape) next turned)
 
 -- the same as `IsBoxAfter`, with the elements that the codecs make of those of the box
-abbrev pub IsTurnedTo : List ArrayCodec → Elements → List ℕ → Region → Payload → List ℕ → Region → Payload → Type 0
-IsTurnedTo [] elements shape region payload last moved made = (last ≡ shape) × (moved ≡ region) × (made ≡ payload)
-IsTurnedTo (codec ∷ codecs) elements shape region payload last moved made = IsTurnedThen codec elements shape region payload (λ encoded next turned. IsTurnedTo codecs elements encoded next turned last moved made)
+abbrev pub IsTurnedTo : List ArrayCodec → Elements → BoxPayload → BoxPayload → Type 0
+IsTurnedTo [] elements before after = (after.shape ≡ before.shape) × (after.region ≡ before.region) × (after.payload ≡ before.payload)
+IsTurnedTo (codec ∷ codecs) elements before after = IsTurnedThen codec elements before (λ turned. IsTurnedTo codecs elements turned after)
 
 -- the elements of a box as array codecs move them, or why they are not moved: a codec does not suit the shape that reaches it, the array is too large, or these are not the box's elements
-abbrev pub TurnsBox : List ArrayCodec → Elements → List ℕ → Region → Payload → Result MovedElements CodecError → Type 0
-TurnsBox codecs elements shape region payload (Ok made) = IsTurnedTo codecs elements shape region payload made.place.shape.items (region_of made.place.subset) (payload_of made.bytes)
-TurnsBox codecs elements shape region payload (Err error.Fit) = all_fit codecs shape ≡ false
-TurnsBox codecs elements shape region payload (Err error.Size) = IsTooLarge elements.type (product shape)
-TurnsBox codecs elements shape region payload (Err error.Memory) = Unit {0}
-TurnsBox codecs elements shape region payload (Err e) = IsInvalid elements.type payload (product region.shape) e
+abbrev pub TurnsBox : List ArrayCodec → Elements → BoxPayload → Result MovedElements CodecError → Type 0
+TurnsBox codecs elements before (Ok made) = IsTurnedTo codecs elements before (box_payload made.place.shape.items (region_of made.place.subset) (payload_of made.bytes))
+TurnsBox codecs elements before (Err error.Fit) = all_fit codecs before.shape ≡ false
+TurnsBox codecs elements before (Err error.Size) = IsTooLarge elements.type (product before.shape)
+TurnsBox codecs elements before (Err error.Memory) = Unit {0}
+TurnsBox codecs elements before (Err e) = IsInvalid elements.type before.payload (product before.region.shape) e
 
 -- elements of a box that were moved back: where a chain decodes the box after array codecs to the elements after, it decodes the box to these with the codecs before it
-abbrev pub UndoesBox : List ArrayCodec → Elements → List ℕ → Region → ArrayBytes → Result ArrayBytes CodecError → Type 0
-UndoesBox codecs elements shape region found result =
-    (chain : Chain) (stored : Option (List ℕ)) (last : List ℕ) (moved : Region) → IsBoxAfter codecs shape region last moved → DecodesPart (coded chain elements last) stored (in_box moved) (Ok found)
-    → DecodesPart (coded (with_array_codecs codecs chain) elements shape) stored (in_box region) result
+abbrev pub UndoesBox : List ArrayCodec → Elements → ArrayBox → ArrayBytes → Result ArrayBytes CodecError → Type 0
+UndoesBox codecs elements box found result =
+    (chain : Chain) (stored : Option (List ℕ)) (last : List ℕ) (moved : Region) → IsBoxAfter codecs box.shape box.region last moved
+    → DecodesPart (coded chain elements last) stored (in_box moved) (Ok found)
+    → DecodesPart (coded (with_array_codecs codecs chain) elements box.shape) stored (in_box box.region) result

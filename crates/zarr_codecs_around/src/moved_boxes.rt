@@ -4,7 +4,7 @@ ghost use Rattle.zarr_grids_boxes.specs.Subsets.{region_of};
 ghost use Rattle.zarr_codecs_arrays.specs.Views.{elements_of, payload_of};
 ghost use Rattle.zarr_codecs_array_to_array.specs.Views.{codec_of};
 ghost use Rattle.zarr_codecs_traits.specs.Sources.{refused_after};
-ghost use Rattle.zarr_codecs_around.specs.MovedBoxes.{MovesBox, MovesBoxes, TurnsBox, UndoesBox};
+ghost use Rattle.zarr_codecs_around.specs.MovedBoxes.{MovesBox, MovesBoxes, TurnsBox, UndoesBox, array_box, box_payload};
 ghost use Rattle.zarr_codecs_around.specs.Views.{codecs_of};
 
 use crate::boxes::{BoxPart, encoded_subset};
@@ -73,7 +73,8 @@ pub(crate) fn move_box(
     part: BoxPart<'_>,
 ) -> Result<MovedElements, CodecError>
     ensures { TurnsBox (codecs_of codecs.now) (elements_of part.entry.elements.now)
-        part.entry.shape.now (region_of part.entry.subset.now) (payload_of bytes) result }
+        (box_payload part.entry.shape.now (region_of part.entry.subset.now) (payload_of bytes))
+        result }
 {
     let elements = part.elements;
     let mut place = copy_box(alloc, part)?;
@@ -104,7 +105,7 @@ pub(crate) fn undo_box(
     part: BoxPart<'_>,
 ) -> Result<ArrayBytes, CodecError>
     ensures undone { UndoesBox (codecs_of codecs.now) (elements_of part.entry.elements.now)
-        part.entry.shape.now (region_of part.entry.subset.now) found result }
+        (array_box part.entry.shape.now (region_of part.entry.subset.now)) found result }
     ensures no_source { (count : ℕ) → refused_after count result ≡ count }
 {
     let Some((codec, others)) = codecs.split_first() else {

@@ -1,11 +1,11 @@
 -- The bytes of the elements of a box of an array.
 use Rattle.std.proofs.Common.{◌≡◌, ℕ, suc, ◌+◌, ◌-◌, ◌*◌, ◌^◌, ◌<◌, ◌≤◌, Bool, true, ◌&&◌, nat_le, nat_lt, cond, List, [], ◌∷◌, ◌++◌, length, map, take, drop, refl, sym, ap, ◌∙◌, subst, arith, length-drop}
-use Rattle.std.specs.Prelude.{IfOk, Result, Ok, Err}
-use Rattle.std.specs.List.{flat_map}
 use Rattle.std.proofs.Math.Seq.{take-add}
 use Rattle.std.proofs.lemmas.Bool.{and_parts}
 use Rattle.std.proofs.lemmas.List.{drop-drop, take-append-le, length-replicate}
 use Rattle.std.proofs.lemmas.List.Folds.{flat_map-map}
+use Rattle.std.specs.Prelude.{IfOk, Result, Ok, Err}
+use Rattle.std.specs.List.{flat_map}
 use Rattle.zarr_grids_boxes.specs.Boxes.{Region, product, places, ravel, each2, is_in_box}
 use Rattle.zarr_grids_boxes.specs.Cuts.{IsAtMost}
 use Rattle.zarr_grids_boxes.specs.Laid.{laid, overlaid}
@@ -24,7 +24,7 @@ use Rattle.zarr_codecs_traits.specs.declared.byte_range.ByteRange.{ByteRange}
 use Rattle.zarr_codecs_regions.proofs.InsideArray.{each_place, ends_at_most, inside_rank, inside_places}
 use Rattle.zarr_codecs_regions.proofs.Extracts.{bytes_of_place, place_width, gathered_box}
 use Rattle.zarr_codecs_bytes.specs.Lines.{AreBoxRanges, ArePartRanges, bytes_of_lines}
-use Rattle.zarr_codecs_bytes.specs.Parts.{HasPart, IsExtracted, part_width}
+use Rattle.zarr_codecs_bytes.specs.Parts.{HasPart, IsExtracted, part_width, fixed_array}
 use Rattle.zarr_codecs_bytes.specs.declared.lines.PartRanges.{PartRanges}
 use Rattle.zarr_codecs_bytes.specs.declared.part.BoxPart.{BoxPart}
 
@@ -75,7 +75,7 @@ same_flat P f g (x ∷ xs) each law = ap (λ ys. ys ++ flat_map f xs) (law x eac
 
 -- the bytes of the elements at the places of a box are what is to be extracted
 box_extracted : (width : ℕ) (value shape : List ℕ) (region : Region) (other : Cell) → 0 < width → length value ≡ product shape * width → shape_has shape region ≡ true → length region.shape ≡ length region.start
-    → IsExtracted width value shape region other (flat_map (element width value) (numbers_of shape region))
+    → IsExtracted (fixed_array width value shape) region other (flat_map (element width value) (numbers_of shape region))
 box_extracted width value shape region other some whole inside same =
     let ps = places region.start region.shape in
     let old : List ℕ → List ℕ = λ place. zero_list width in
@@ -99,7 +99,7 @@ box_has part value extracted some long is =
     let region : Region = region_of part.region.now in
     record {
       whole = long;
-      are = λ other. subst (λ bs. IsExtracted (part_width part) value shape region other bs) (sym is) (box_extracted (part_width part) value shape region other some long part.inside part.region.now.same);
+      are = λ other. subst (λ bs. IsExtracted (fixed_array (part_width part) value shape) region other bs) (sym is) (box_extracted (part_width part) value shape region other some long part.inside part.region.now.same);
     }
 
 -- a box without places has no numbers

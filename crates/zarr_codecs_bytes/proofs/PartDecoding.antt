@@ -1,12 +1,12 @@
 -- What a part of a value is decoded to: the elements at its places in the other order, where each is a value.
 use Rattle.std.proofs.Common.{◌≡◌, ℕ, zero, suc, ◌+◌, ◌*◌, ◌/◌, ◌^◌, ◌<◌, ◌≤◌, List, [], ◌∷◌, length, get_or, map, take, drop, ap, ◌∙◌, sym, refl, arith, Option, Some, None, option_and_then, Bool, true, inl, inr, if◌then◌else◌, Result, Ok, Err, Vec, Global, subst, zero-mul}
-use Rattle.std.specs.Prelude.{IfOk, ◌≢◌}
-use Rattle.std.specs.List.{list_all}
 use Rattle.std.proofs.lemmas.Bool.{eq-eqb, ne_eqb, cases_lt, lt-ltb}
 use Rattle.std.proofs.lemmas.Simd.{map-map}
 use Rattle.std.proofs.lemmas.List.{get_or_past, drop_all}
 use Rattle.std.proofs.Math.Seq.{take-nil}
 use Rattle.std.proofs.Math.Nat.{mul-div_left, mul-le-mul_right}
+use Rattle.std.specs.Prelude.{IfOk, ◌≢◌}
+use Rattle.std.specs.List.{list_all}
 use Rattle.zarr_grids_boxes.specs.Boxes.{Region, product, places, ravel}
 use Rattle.zarr_grids_boxes.proofs.InBox.{length-places}
 use Rattle.zarr_codecs_meaning.specs.Types.{DataType, components, bytes_in, is_fixed, byte_width, Cell, of_bytes, cell_bytes, is_value, Elements, IsTooLarge}
@@ -30,7 +30,7 @@ use Rattle.zarr_codecs_traits.specs.Outcomes.{DecodesPart, IsPart}
 use Rattle.zarr_codecs_regions.proofs.InsideArray.{inside_product}
 use Rattle.zarr_codecs_regions.proofs.FillValues.{larger_too}
 use Rattle.zarr_codecs_bytes.specs.Orders.{all_ordered}
-use Rattle.zarr_codecs_bytes.specs.Parts.{IsExtracted}
+use Rattle.zarr_codecs_bytes.specs.Parts.{IsExtracted, fixed_array}
 use Rattle.zarr_codecs_bytes.proofs.Decoding.{tested_all, IsRead, made_counted, refused_value}
 use Rattle.zarr_codecs_bytes.proofs.Orders.{cells_ordered}
 
@@ -129,8 +129,8 @@ fixed_width type width one_size h =
 
 pub extracted_by : {E : Type 0} (r : Result (Vec ℕ Global) E) (width other_width : ℕ) (value shape : List ℕ) (region : Region) → width ≡ other_width
     → ((other : Cell) → IfOk r (λ v. fixed_cells width v.items ≡ gather other (fixed_cells width value) (numbers_of shape region))) → IfOk r (λ v. length v.items ≡ product region.shape * width)
-    → (other : Cell) → IfOk r (λ v. IsExtracted other_width value shape region other v.items)
-extracted_by (Ok v) width other_width value shape region same elements long other = subst (λ w. IsExtracted w value shape region other v.items) same (record { long = long; elements = elements other })
+    → (other : Cell) → IfOk r (λ v. IsExtracted (fixed_array other_width value shape) region other v.items)
+extracted_by (Ok v) width other_width value shape region same elements long other = subst (λ w. IsExtracted (fixed_array w value shape) region other v.items) same (record { long = long; elements = elements other })
 extracted_by (Err e) width other_width value shape region same elements long other = tt
 
 -- elements that are too wide for a slice are none
@@ -147,7 +147,7 @@ too_wide type one_size h =
 
 -- an array whose elements are too wide for a slice has none
 pub nothing_extracted : (type : DataType) (value shape : List ℕ) (region : Region) (extracted : List ℕ) → is_fixed type ≡ true → None ≡ option_and_then word_sized (byte_width type) → length value ≡ product shape * bytes_in (components type) → length value < 2 ^ 64
-    → length region.shape ≡ length region.start → shape_has shape region ≡ true → extracted ≡ [] → (other : Cell) → IsExtracted (bytes_in (components type)) value shape region other extracted
+    → length region.shape ≡ length region.start → shape_has shape region ≡ true → extracted ≡ [] → (other : Cell) → IsExtracted (fixed_array (bytes_in (components type)) value shape) region other extracted
 nothing_extracted type value shape region extracted one_size h whole few l inside empty other =
     let width = bytes_in (components type) in
     let wide : 2 ^ 64 ≤ width = too_wide type one_size h in

@@ -1,12 +1,12 @@
 -- The bytes of a part, written in ranges.
 use Rattle.std.proofs.Common.{◌≡◌, ◌∙◌, ℕ, suc, ◌+◌, ◌-◌, ◌*◌, ◌/◌, ◌%◌, ◌^◌, ◌<◌, ◌≤◌, Bool, true, false, ◌||◌, if◌then◌else◌, List, [], ◌∷◌, ◌++◌, length, map, get_or, take, drop, replicate, refl, sym, ap, subst, arith, Option, Some, Ok, length-drop}
-use Rattle.std.specs.Prelude.{nat_lt}
-use Rattle.std.specs.List.{range_with_len, flat_map, list_all, list_any}
 use Rattle.std.proofs.Math.Nat.{mul-mod_left, mul-div_left}
 use Rattle.std.proofs.lemmas.Bool.{and_parts, eqb-true, ltb-false, ltb-true}
 use Rattle.std.proofs.lemmas.List.{append-nil, get_or-map, length-append, length-replicate, length-take-le}
 use Rattle.std.proofs.lemmas.List.Folds.{flat_map-map}
 use Rattle.std.proofs.lemmas.List.FromFn.{length-range_with_len}
+use Rattle.std.specs.Prelude.{nat_lt}
+use Rattle.std.specs.List.{range_with_len, flat_map, list_all, list_any}
 use Rattle.zarr_grids_boxes.specs.Boxes.{Region, product, places, place_at, ravel, each2, is_in_box}
 use Rattle.zarr_grids_boxes.specs.Laid.{laid, overlaid, HasWidth}
 use Rattle.zarr_grids_boxes.specs.Subsets.{region_of}
@@ -37,11 +37,11 @@ use Rattle.zarr_codecs_traits.specs.PartEncoding.{EncodesPart, cells_with_box}
 use Rattle.zarr_codecs_traits.specs.Patches.{any_too_far, cut_patches, overwritten, patched, patches_in, written_at}
 use Rattle.zarr_codecs_traits.specs.declared.byte_range.ByteRange.{ByteRange}
 use Rattle.zarr_codecs_traits.specs.declared.value_patch.ValuePatches.{ValuePatches}
-use Rattle.zarr_codecs_traits.proofs.PartValues.{whole_where_decoded}
 use Rattle.zarr_codecs_traits.specs.Sources.{bytes_in_ranges}
+use Rattle.zarr_codecs_traits.proofs.PartValues.{whole_where_decoded}
 use Rattle.zarr_codecs_bytes.specs.Lines.{ArePartRanges, ends_after, total_length}
 use Rattle.zarr_codecs_bytes.specs.Orders.{all_ordered}
-use Rattle.zarr_codecs_bytes.specs.Parts.{IsExtracted, PatchesPart, part_width}
+use Rattle.zarr_codecs_bytes.specs.Parts.{IsExtracted, PatchesPart, part_width, fixed_array}
 use Rattle.zarr_codecs_bytes.specs.declared.lines.PartRanges.{PartRanges}
 use Rattle.zarr_codecs_bytes.specs.declared.part.BoxPart.{BoxPart}
 use Rattle.zarr_codecs_bytes.proofs.BoxElements.{mul_le, number_below, same_flat}
@@ -112,7 +112,7 @@ box_laid width content region some same whole =
     ∙ elements_are width (product region.shape) content some whole)))
 
 -- where the bytes of a part stand, of the value whose bytes are their own places
-part_positions : (width : ℕ) (shape : List ℕ) (region : Region) (extracted : List ℕ) → 0 < width → shape_has shape region ≡ true → IsExtracted width (range_with_len 0 (product shape * width)) shape region nothing extracted
+part_positions : (width : ℕ) (shape : List ℕ) (region : Region) (extracted : List ℕ) → 0 < width → shape_has shape region ≡ true → IsExtracted (fixed_array width (range_with_len 0 (product shape * width)) shape) region nothing extracted
     → extracted ≡ flat_map (element_positions width shape) (places region.start region.shape)
 part_positions width shape region extracted some inside is =
     let own = range_with_len 0 (product shape * width) in
@@ -140,7 +140,7 @@ pub record AreBoxRanges (width : ℕ) (shape : List ℕ) (region : Region) (rang
   pub inside : shape_has shape region ≡ true
   pub same : length region.shape ≡ length region.start
   pub within : list_any (ends_after (product shape * width)) ranges ≡ false
-  pub are : IsExtracted width (range_with_len 0 (product shape * width)) shape region nothing (bytes_in_ranges (range_with_len 0 (product shape * width)) ranges)
+  pub are : IsExtracted (fixed_array width (range_with_len 0 (product shape * width)) shape) region nothing (bytes_in_ranges (range_with_len 0 (product shape * width)) ranges)
 
 pub ranges_total : (width : ℕ) (shape : List ℕ) (region : Region) (ranges : List ByteRange) → AreBoxRanges width shape region ranges → total_length ranges ≡ product region.shape * width
 ranges_total width shape region ranges h = sym (length-positions ranges) ∙ (sym (ap length (positions_read (product shape * width) ranges h.within)) ∙ h.are.long)

@@ -38,15 +38,25 @@ GivesPart chain stored part result = DecodesPart (coded chain (elements_of part.
 abbrev pub most_of_part : Chain → Option (List ℕ) → BoxPart → ℕ
 most_of_part chain stored part = most_read chain (elements_of part.elements.now).type part.shape.now stored (in_box (region_of part.region.now))
 
--- the bytes of the elements at the places of a box, of the elements that a value holds, each of one width; what is past the value's end is `other`
-pub record IsExtracted (width : ℕ) (value shape : List ℕ) (region : Region) (other : Cell) (extracted : List ℕ) : Type 0 where
-  pub long : length extracted ≡ product region.shape * width
-  pub elements : fixed_cells width extracted ≡ gather other (fixed_cells width value) (numbers_of shape region)
+-- an array whose elements have one width: that width, the elements' bytes, and the array's shape
+pub record FixedArray : Type 0 where
+  pub width : ℕ
+  pub value : List ℕ
+  pub shape : List ℕ
+
+-- an array of this shape, whose elements of this width have these bytes
+abbrev pub fixed_array : ℕ → List ℕ → List ℕ → FixedArray
+fixed_array width value shape = record { width = width; value = value; shape = shape }
+
+-- the bytes of the elements at the places of a box, of an array; what is past the end of the array's bytes is `other`
+pub record IsExtracted (array : FixedArray) (region : Region) (other : Cell) (extracted : List ℕ) : Type 0 where
+  pub long : length extracted ≡ product region.shape * array.width
+  pub elements : fixed_cells array.width extracted ≡ gather other (fixed_cells array.width array.value) (numbers_of array.shape region)
 
 -- the bytes of a part's elements, of a value of as many bytes as the array's elements have
 pub record HasPart (part : BoxPart) (value extracted : List ℕ) : Type 0 where
   pub whole : length value ≡ product part.shape.now * part_width part
-  pub are : (other : Cell) → IsExtracted (part_width part) value part.shape.now (region_of part.region.now) other extracted
+  pub are : (other : Cell) → IsExtracted (fixed_array (part_width part) value part.shape.now) (region_of part.region.now) other extracted
 
 -- patches that replace the elements of a part by others, which have these bytes: of a value that is decoded they make what the elements are then encoded to
 pub record PatchesPart (chain : Chain) (part : BoxPart) (given : List ℕ) (patches : List Patch) : Type 0 where

@@ -1,8 +1,8 @@
 -- What a fitting chain decodes are values of the type, whole or at places alone, whoever wrote the bytes.
 use Rattle.std.proofs.Common.{◌≡◌, ℕ, zero, suc, ◌+◌, ◌-◌, ◌*◌, ◌<◌, List, [], ◌∷◌, length, map, take, drop, replicate, slice_get, ap, ◌∙◌, sym, refl, arith, Option, Some, option_and_then, option_map, unwrap_or, Bool, true, false, ◌&&◌, ◌==◌, if◌then◌else◌, subst}
+use Rattle.std.proofs.lemmas.Bool.{and_parts}
 use Rattle.std.specs.Prelude.{nat_le, nat_lt}
 use Rattle.std.specs.List.{flat_map, list_all}
-use Rattle.std.proofs.lemmas.Bool.{and_parts}
 use Rattle.zarr_grids_boxes.specs.Boxes.{product}
 use Rattle.zarr_codecs_meaning.specs.Numbers.{digits, number}
 use Rattle.zarr_codecs_meaning.specs.Types.{DataType, bool, integer, unsigned, uint8, uint64, components, bytes_in, inner_type, is_value, Cell, of_bytes, cell_bytes, Elements, zero_filled}
@@ -12,7 +12,7 @@ use Rattle.zarr_codecs_meaning.specs.Places.{gather, place_numbers, position_of,
 use Rattle.zarr_codecs_meaning.specs.Fits.{fits, array_codec_fits, bits_in, packed_size}
 use Rattle.zarr_codecs_meaning.specs.Encoding.{ordered, Pair, index_size, last_number}
 use Rattle.zarr_codecs_meaning.specs.Keeping.{spread, arranged}
-use Rattle.zarr_codecs_meaning.specs.Decoding.{all_there, element_at, is_whole, without_padding, unpacked, sections_of, elements_between, elements_of, read_unless_none, variable_decoded, masked_of, count_present, options_decoded, is_absent, slice_at, pairs_in, pieces_decoded, cell_of_part, decoded, cell_at, opens, part_decoded}
+use Rattle.zarr_codecs_meaning.specs.Decoding.{all_there, element_at, is_whole, without_padding, unpacked, sections_of, elements_between, elements_of, read_unless_none, variable_decoded, masked_of, count_present, options_decoded, is_absent, slice_at, pairs_in, pieces_decoded, cell_of_part, decoded, cell_at, opens, part_decoded, cell_of_pair}
 use Rattle.zarr_codecs_meaning.specs.Laws.{AreCells}
 use Rattle.zarr_codecs_meaning.proofs.Lists.{some_same, bind_some, map_some, if_some, elim_some, Each, each_passes, all_pass, each_map}
 use Rattle.zarr_codecs_meaning.proofs.ArrayCodecs.{values_gathered}
@@ -214,12 +214,12 @@ met_value false test now later cell one other h = other h
 
 part_cell_value : (test : Cell → Bool) (fits_part : Part → Bool) (read : List ℕ → List ℕ → ℕ → Option Cell) (fill : Cell) (value : List ℕ) (n : ℕ) (parts : List Part) (ps : List Pair) (cell : Cell) → test fill ≡ true
     → ((part : Part) → fits_part part ≡ true → (slice : List ℕ) (place : ℕ) (found : Cell) → read part.shape slice place ≡ Some found → test found ≡ true) → Each (λ part. fits_part part ≡ true) parts
-    → cell_of_part read fill value n parts ps ≡ Some cell → test cell ≡ true
+    → cell_of_part (cell_of_pair read fill value) n parts ps ≡ Some cell → test cell ≡ true
 part_cell_value test fits_part read fill value n [] ps cell one law fit h = cc
 part_cell_value test fits_part read fill value n (part ∷ parts) [] cell one law fit h = cc
 part_cell_value test fits_part read fill value n (part ∷ parts) (p ∷ ps) cell one law fit h =
     let k = position_of n part.places in
-    met_value (nat_lt k (length part.places)) test (if is_absent p then Some fill else option_and_then (λ slice. read part.shape slice k) (slice_at value p)) (cell_of_part read fill value n parts ps) cell
+    met_value (nat_lt k (length part.places)) test (if is_absent p then Some fill else option_and_then (λ slice. read part.shape slice k) (slice_at value p)) (cell_of_part (cell_of_pair read fill value) n parts ps) cell
     (λ e. held_value (is_absent p) test (λ slice. read part.shape slice k) fill (slice_at value p) cell one (λ slice found g. law part fit.0 slice k found g) e)
     (λ e. part_cell_value test fits_part read fill value n parts ps cell one law fit.1 e) h
 
@@ -250,7 +250,7 @@ cell_value (sharded subchunk inner index location) elements shape value n cell f
     let parts = parts_of shape subchunk in
     let fits_part = λ (part : Part). fits inner elements.type part.shape in
     let f = fitted subchunk inner index location elements shape fit in
-    let pairs = bind_some (cell_of_part (cell_at inner elements) elements.fill value n parts) (pairs_in (decoded index (zero_filled uint64) pairs_shape) location (index_size index pairs_shape) value) cell h in
+    let pairs = bind_some (cell_of_part (cell_of_pair (cell_at inner elements) elements.fill value) n parts) (pairs_in (decoded index (zero_filled uint64) pairs_shape) location (index_size index pairs_shape) value) cell h in
     part_cell_value (is_value elements.type) fits_part (cell_at inner elements) elements.fill value n parts pairs.0 cell fill
     (λ part one slice place found e. cell_value inner elements part.shape slice place found one fill e) (each_passes fits_part parts f.each) pairs.2
 

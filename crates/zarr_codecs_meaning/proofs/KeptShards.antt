@@ -1,19 +1,18 @@
 -- What is kept of the cells of a shard: of its subchunks those that are all fill whole, and of the others what their chain keeps.
 use Rattle.std.proofs.Common.{◌≡◌, ℕ, ◌<◌, List, [], ◌∷◌, length, map, get_or, replicate, ap, ◌∙◌, sym, refl, inl, inr, Option, Some, None, option_and_then, option_map, Bool, true, false, if◌then◌else◌}
-use Rattle.std.specs.Prelude.{nat_lt}
-use Rattle.std.specs.List.{list_all}
 use Rattle.std.proofs.lemmas.Bool.{le-leb}
 use Rattle.std.proofs.lemmas.List.{length-map, get_or-map}
 use Rattle.std.proofs.lemmas.List.FromFn.{length-map-range_with_len, fill_by_all}
+use Rattle.std.specs.Prelude.{nat_lt}
+use Rattle.std.specs.List.{list_all}
 use Rattle.zarr_grids_boxes.specs.Boxes.{product}
-use Rattle.zarr_codecs_meaning.specs.Types.{is_value, Cell, is_fill, Elements}
-use Rattle.zarr_codecs_meaning.specs.Chains.{Location}
+use Rattle.zarr_codecs_meaning.specs.Types.{is_value, Cell, is_fill, Elements, uint64, zero_filled}
 use Rattle.zarr_codecs_meaning.specs.Places.{place_numbers, position_of, Part, parts_of}
 use Rattle.zarr_codecs_meaning.specs.Fits.{can_cut}
 use Rattle.zarr_codecs_meaning.specs.Encoding.{Pair, Piece, piece_of, pieces_of, base_of}
 use Rattle.zarr_codecs_meaning.specs.Keeping.{arranged, kept_piece}
-use Rattle.zarr_codecs_meaning.specs.Decoding.{is_absent, slice_at, pairs_of_cells, index_bytes, pairs_in, pieces_decoded}
-use Rattle.zarr_codecs_meaning.specs.Standing.{HasSlice, PieceStands, PiecesStand, ShardStands}
+use Rattle.zarr_codecs_meaning.specs.Decoding.{is_absent, slice_at, pairs_of_cells, index_bytes, pairs_in, pieces_decoded, decoded}
+use Rattle.zarr_codecs_meaning.specs.Standing.{HasSlice, PieceStands, PiecesStand, ShardStands, data_part, layout_size, IndexLayout, Standing}
 use Rattle.zarr_codecs_meaning.specs.Laws.{AreCells}
 use Rattle.zarr_codecs_meaning.proofs.Lists.{Each, each_passes, all_pass, each_get, each_map}
 use Rattle.zarr_codecs_meaning.proofs.Positions.{each_at}
@@ -129,9 +128,12 @@ shard_same keep fill shape subchunk cells cuts whole same =
 -- ---- reading
 
 -- the pairs that are read of a value that stands by some relation of slices
-pub pairs_found : (index : List ℕ → Option (List Cell)) (inner : List ℕ → List ℕ → List Cell → Type 0) (location : Location) (size : ℕ) (fill : Cell) (pieces : List Piece) (value : List ℕ) (h : ShardStands index inner location size fill pieces value)
-    → pairs_in index location size value ≡ Some h.0
-pairs_found index inner location size fill pieces value h =
+pub pairs_found : (layout : IndexLayout) (inner : Standing) (fill : Cell) (pieces : List Piece) (value : List ℕ) (h : ShardStands layout inner fill pieces value)
+    → pairs_in (decoded layout.chain (zero_filled uint64) layout.shape) layout.location (layout_size layout) value ≡ Some h.0
+pairs_found layout inner fill pieces value h =
+    let index = decoded layout.chain (zero_filled uint64) layout.shape in
+    let location = layout.location in
+    let size = layout_size layout in
     let laid = h.2 in
     let at_ = index_read location size laid.index_bytes h.1 value laid.long laid.is in
     ap (λ (t : Bool). if t then option_map pairs_of_cells (index (index_bytes location size value)) else None) (le-leb size (length value) at_.0)
@@ -139,7 +141,7 @@ pairs_found index inner location size fill pieces value h =
 
 -- a subchunk that stands is decoded to what is kept of it
 piece_read : (decode : List ℕ → List ℕ → Option (List Cell)) (keep : List ℕ → List Cell → List Cell) (inner : List ℕ → List ℕ → List Cell → Type 0) (fill : Cell) (base : ℕ) (was value : List ℕ) (x : Piece) (p : Pair)
-    → ((q : Pair) (slice : List ℕ) → HasSlice base was q slice → slice_at value q ≡ Some slice) → ((v : List ℕ) → inner x.0 v x.1 → decode x.0 v ≡ Some (keep x.0 x.1)) → length x.1 ≡ product x.0 → PieceStands inner fill base was x p
+    → ((q : Pair) (slice : List ℕ) → HasSlice base was q slice → slice_at value q ≡ Some slice) → ((v : List ℕ) → inner x.0 v x.1 → decode x.0 v ≡ Some (keep x.0 x.1)) → length x.1 ≡ product x.0 → PieceStands inner fill (data_part base was) x p
     → (if is_absent p then Some (replicate (product x.0) fill) else option_and_then (decode x.0) (slice_at value p)) ≡ Some (kept_piece keep fill x)
 piece_read decode keep inner fill base was value x p reads law count (inl h) =
     ap (λ (q : Pair). if is_absent q then Some (replicate (product x.0) fill) else option_and_then (decode x.0) (slice_at value q)) h.1
@@ -154,7 +156,7 @@ PartKeeps decode keep inner fill cells part =
     (length (part_cells fill cells part) ≡ product part.shape) × ((v : List ℕ) → inner part.shape v (part_cells fill cells part) → decode part.shape v ≡ Some (keep part.shape (part_cells fill cells part)))
 
 parts_read : (decode : List ℕ → List ℕ → Option (List Cell)) (keep : List ℕ → List Cell → List Cell) (inner : List ℕ → List ℕ → List Cell → Type 0) (fill : Cell) (cells : List Cell) (base : ℕ) (was value : List ℕ)
-    → ((q : Pair) (slice : List ℕ) → HasSlice base was q slice → slice_at value q ≡ Some slice) → (parts : List Part) (ps : List Pair) → Each (PartKeeps decode keep inner fill cells) parts → PiecesStand inner fill base was (pieces_of fill cells parts) ps
+    → ((q : Pair) (slice : List ℕ) → HasSlice base was q slice → slice_at value q ≡ Some slice) → (parts : List Part) (ps : List Pair) → Each (PartKeeps decode keep inner fill cells) parts → PiecesStand inner fill (data_part base was) (pieces_of fill cells parts) ps
     → pieces_decoded decode fill value parts ps ≡ Some (map (λ (part : Part). kept_part keep fill cells part) parts)
 parts_read decode keep inner fill cells base was value reads [] [] law h = refl
 parts_read decode keep inner fill cells base was value reads [] (p ∷ ps) law h = elim h [ ]
@@ -166,16 +168,18 @@ parts_read decode keep inner fill cells base was value reads (part ∷ parts) (p
     ∙ ap (option_map (λ (others : List (List Cell)). kept_part keep fill cells part ∷ others)) rest
 
 -- a shard that stands is decoded to what is kept of its subchunks
-pub shard_read : (index : List ℕ → Option (List Cell)) (decode : List ℕ → List ℕ → Option (List Cell)) (keep : List ℕ → List Cell → List Cell) (inner : List ℕ → List ℕ → List Cell → Type 0) (location : Location) (size : ℕ) (fill : Cell) (cells : List Cell) (shape subchunk value : List ℕ)
-    → Each (PartKeeps decode keep inner fill cells) (parts_of shape subchunk) → ShardStands index inner location size fill (pieces_of fill cells (parts_of shape subchunk)) value
-    → option_and_then (λ (pairs : List Pair). option_map (λ (found : List (List Cell)). map (arranged fill (parts_of shape subchunk) found) (place_numbers shape)) (pieces_decoded decode fill value (parts_of shape subchunk) pairs)) (pairs_in index location size value)
+pub shard_read : (layout : IndexLayout) (decode : List ℕ → List ℕ → Option (List Cell)) (keep : List ℕ → List Cell → List Cell) (inner : Standing) (fill : Cell) (cells : List Cell) (shape subchunk value : List ℕ)
+    → Each (PartKeeps decode keep inner fill cells) (parts_of shape subchunk) → ShardStands layout inner fill (pieces_of fill cells (parts_of shape subchunk)) value
+    → option_and_then (λ (pairs : List Pair). option_map (λ (found : List (List Cell)). map (arranged fill (parts_of shape subchunk) found) (place_numbers shape)) (pieces_decoded decode fill value (parts_of shape subchunk) pairs)) (pairs_in (decoded layout.chain (zero_filled uint64) layout.shape) layout.location (layout_size layout) value)
     ≡ Some (kept_shard keep fill shape subchunk cells)
-shard_read index decode keep inner location size fill cells shape subchunk value law h =
+shard_read layout decode keep inner fill cells shape subchunk value law h =
+    let location = layout.location in
+    let size = layout_size layout in
     let parts = parts_of shape subchunk in
     let laid = h.2 in
     let base = base_of location size in
     let begins : base ≡ base_of location (length laid.index_bytes) = ap (base_of location) (sym laid.long) in
     let next : List Pair → Option (List Cell) = λ (ps : List Pair). option_map (λ (found : List (List Cell)). map (arranged fill parts found) (place_numbers shape)) (pieces_decoded decode fill value parts ps) in
-    ap (option_and_then next) (pairs_found index inner location size fill (pieces_of fill cells parts) value h)
+    ap (option_and_then next) (pairs_found layout inner fill (pieces_of fill cells parts) value h)
     ∙ ap (option_map (λ (found : List (List Cell)). map (arranged fill parts found) (place_numbers shape)))
     (parts_read decode keep inner fill cells base h.1 value (λ q s k. slice_found location base laid.index_bytes h.1 value q s laid.is begins k) parts h.0 law h.3)

@@ -1,8 +1,8 @@
 -- What is encoded stands, and what stands is decoded to what is kept of it: by recursion over chains, both at once.
 use Rattle.std.proofs.Common.{◌≡◌, ℕ, ◌+◌, ◌/◌, ◌^◌, ◌<◌, List, [], ◌∷◌, length, map, ap, ◌∙◌, sym, refl, arith, Option, Some, None, option_and_then, option_map, unwrap_or, Bool, true, false, ◌⊎◌, inl, inr}
-use Rattle.std.specs.Prelude.{MatchBool}
 use Rattle.std.proofs.lemmas.List.{length-map}
 use Rattle.std.proofs.lemmas.Bool.{and_parts}
+use Rattle.std.specs.Prelude.{MatchBool}
 use Rattle.zarr_grids_boxes.specs.Boxes.{product}
 use Rattle.zarr_codecs_meaning.specs.Numbers.{digits}
 use Rattle.zarr_codecs_meaning.specs.Types.{DataType, bool, integer, unsigned, uint8, uint64, is_fixed, components, Elements, Cell, of_bytes, cell_bytes, inner_type, zero_filled}
@@ -13,7 +13,7 @@ use Rattle.zarr_codecs_meaning.specs.Fits.{fits, is_lossless, keeps_indices, is_
 use Rattle.zarr_codecs_meaning.specs.Encoding.{encoded, ends_from, last_number, number_cells, mask_cell, piece_of, pieces_of, stored_pieces, shard_of, joined_slices, pairs_from, pair_cells, index_size, base_of}
 use Rattle.zarr_codecs_meaning.specs.Keeping.{kept}
 use Rattle.zarr_codecs_meaning.specs.Decoding.{decoded}
-use Rattle.zarr_codecs_meaning.specs.Standing.{Stands, ShardStands}
+use Rattle.zarr_codecs_meaning.specs.Standing.{Stands, ShardStands, index_layout}
 use Rattle.zarr_codecs_meaning.specs.Laws.{IsLawfulChain, AreCells}
 use Rattle.zarr_codecs_meaning.proofs.Lists.{bind_some, some_same}
 use Rattle.zarr_codecs_meaning.proofs.Sizes.{cells_moved}
@@ -70,7 +70,7 @@ written_back chain laws elements shape value cells fit lossless are h = written_
 pub stored_stands : (subchunk : List ℕ) (inner index : Chain) (location : Location) (elements : Elements) (shape value : List ℕ) (cells : List Cell) (slice : List ℕ → List ℕ → List Cell → Type 0) (stored : List (Option (List ℕ)))
     → IsLawfulChain index → Laws index → Fitted subchunk inner index elements shape → is_lossless index uint64 ≡ true → SlicesStand slice elements.fill (pieces_of elements.fill cells (parts_of shape subchunk)) stored
     → shard_of (encoded index (zero_filled uint64) (index_shape shape subchunk)) location (index_size index (index_shape shape subchunk)) stored ≡ Some value
-    → ShardStands (decoded index (zero_filled uint64) (index_shape shape subchunk)) slice location (index_size index (index_shape shape subchunk)) elements.fill (pieces_of elements.fill cells (parts_of shape subchunk)) value
+    → ShardStands (index_layout index location (index_shape shape subchunk)) slice elements.fill (pieces_of elements.fill cells (parts_of shape subchunk)) value
 stored_stands subchunk inner index location elements shape value cells slice stored lawful laws f lossless slices h =
     let pairs_shape = index_shape shape subchunk in
     let base = base_of location (index_size index pairs_shape) in
@@ -86,7 +86,7 @@ pub shard_stands : (subchunk : List ℕ) (inner index : Chain) (location : Locat
     → fits (sharded subchunk inner index location) elements.type shape ≡ true → is_lossless index uint64 ≡ true → AreCells elements shape cells
     → ((part : List ℕ) (made : List ℕ) (found : List Cell) → fits inner elements.type part ≡ true → AreCells elements part found → encoded inner elements part found ≡ Some made → slice part made found)
     → encoded (sharded subchunk inner index location) elements shape cells ≡ Some value
-    → ShardStands (decoded index (zero_filled uint64) (index_shape shape subchunk)) slice location (index_size index (index_shape shape subchunk)) elements.fill (pieces_of elements.fill cells (parts_of shape subchunk)) value
+    → ShardStands (index_layout index location (index_shape shape subchunk)) slice elements.fill (pieces_of elements.fill cells (parts_of shape subchunk)) value
 shard_stands subchunk inner index location elements shape value cells slice lawful laws fit lossless are law h =
     let pairs_shape = index_shape shape subchunk in
     let f = fitted subchunk inner index location elements shape fit in
@@ -200,7 +200,7 @@ laws_of (sharded subchunk inner index location) lawful =
           let fill = elements.fill in
           let pairs_shape = index_shape shape subchunk in
           let inside = (shard_inside subchunk inner index location elements.type read).0 in
-          shard_read (decoded index (zero_filled uint64) pairs_shape) (decoded inner elements) (kept inner elements) (Stands inner elements) location (index_size index pairs_shape) fill cells shape subchunk value
+          shard_read (index_layout index location pairs_shape) (decoded inner elements) (kept inner elements) (Stands inner elements) fill cells shape subchunk value
           (each_part subchunk inner index elements shape cells (PartKeeps (decoded inner elements) (kept inner elements) (Stands inner elements) fill cells) (fitted subchunk inner index location elements shape fit) are
           (λ part one two. (two.whole, λ v st. first.decodes elements part.shape v (part_cells fill cells part) one inside two st))) h;
     }

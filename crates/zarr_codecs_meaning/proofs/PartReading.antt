@@ -1,11 +1,11 @@
 -- What is decoded whole is read at places alone.
 use Rattle.std.proofs.Common.{◌≡◌, ℕ, zero, suc, ◌<◌, List, [], ◌∷◌, length, map, get_or, slice_get, replicate, ap, ◌∙◌, sym, refl, arith, Option, Some, None, option_and_then, option_map, is_some, Bool, true, false, inl, inr, if◌then◌else◌}
-use Rattle.std.specs.Prelude.{nat_lt}
-use Rattle.std.specs.List.{list_all, range_with_len}
 use Rattle.std.proofs.lemmas.Bool.{ltb-true, lt-ltb, and_parts}
 use Rattle.std.proofs.lemmas.List.{get_or-map, get_or-replicate}
 use Rattle.std.proofs.lemmas.Option.{slice_get-get_or}
 use Rattle.std.proofs.lemmas.List.FromFn.{length-range_with_len, length-map-range_with_len, get_or-range_with_len, get_or-map-range_with_len}
+use Rattle.std.specs.Prelude.{nat_lt}
+use Rattle.std.specs.List.{list_all, range_with_len}
 use Rattle.zarr_grids_boxes.specs.Boxes.{product}
 use Rattle.zarr_codecs_meaning.specs.Types.{uint64, Elements, Cell, zero_filled}
 use Rattle.zarr_codecs_meaning.specs.Chains.{Chain}
@@ -14,7 +14,7 @@ use Rattle.zarr_codecs_meaning.specs.Places.{gather, place_numbers, position_of,
 use Rattle.zarr_codecs_meaning.specs.Fits.{fits, array_codec_fits}
 use Rattle.zarr_codecs_meaning.specs.Encoding.{Pair, index_size}
 use Rattle.zarr_codecs_meaning.specs.Keeping.{arranged}
-use Rattle.zarr_codecs_meaning.specs.Decoding.{all_there, element_at, is_whole, decoded, cell_at, cell_of_part, opens, part_decoded, is_absent, slice_at, pairs_in, pieces_decoded}
+use Rattle.zarr_codecs_meaning.specs.Decoding.{all_there, element_at, is_whole, decoded, cell_at, cell_of_part, opens, part_decoded, is_absent, slice_at, pairs_in, pieces_decoded, cell_of_pair}
 use Rattle.zarr_codecs_meaning.proofs.Lists.{bind_some, map_some, elim_some, Each, each_passes}
 use Rattle.zarr_codecs_meaning.proofs.ArrayCodecs.{array_codec_count}
 use Rattle.zarr_codecs_meaning.proofs.Positions.{position_found}
@@ -70,7 +70,7 @@ meet true here there one other f g = f refl
 meet false here there one other f g = g refl
 
 place_read : (read : List ℕ → List ℕ → ℕ → Option Cell) (decode : List ℕ → List ℕ → Option (List Cell)) (fill : Cell) (value : List ℕ) (n : ℕ) (parts : List Part) (ps : List Pair) (pieces : List (List Cell))
-    → Each (PartLaw read decode fill) parts → pieces_decoded decode fill value parts ps ≡ Some pieces → IsCovered n parts → cell_of_part read fill value n parts ps ≡ Some (arranged fill parts pieces n)
+    → Each (PartLaw read decode fill) parts → pieces_decoded decode fill value parts ps ≡ Some pieces → IsCovered n parts → cell_of_part (cell_of_pair read fill value) n parts ps ≡ Some (arranged fill parts pieces n)
 place_read read decode fill value n [] ps pieces law h covered = elim covered [ ]
 place_read read decode fill value n (part ∷ parts) [] pieces law h covered = cc
 place_read read decode fill value n (part ∷ parts) (p ∷ ps) pieces law h covered =
@@ -79,7 +79,7 @@ place_read read decode fill value n (part ∷ parts) (p ∷ ps) pieces law h cov
     let later = pieces_decoded decode fill value parts ps in
     let first = bind_some (λ (cells : List Cell). option_map (λ (others : List (List Cell)). cells ∷ others) later) now pieces h in
     let rest = map_some (λ (others : List (List Cell)). first.0 ∷ others) later pieces first.2 in
-    meet (nat_lt k (length part.places)) (if is_absent p then Some fill else option_and_then (λ slice. read part.shape slice k) (slice_at value p)) (cell_of_part read fill value n parts ps)
+    meet (nat_lt k (length part.places)) (if is_absent p then Some fill else option_and_then (λ slice. read part.shape slice k) (slice_at value p)) (cell_of_part (cell_of_pair read fill value) n parts ps)
     (get_or first.0 k fill) (arranged fill parts rest.0 n)
     (λ e. held_cell (is_absent p) read decode fill part (slice_at value p) first.0 k law.0 (ltb-true k (length part.places) e) first.1)
     (λ e. elim covered [
@@ -159,7 +159,7 @@ reads_of (sharded subchunk inner index location) elements shape value cells fit 
     each_law (cell_at inner elements) (decoded inner elements) fill test parts (λ part one slice found n e below. (reads_of inner elements part.shape slice found one e).cell n below) (part_counts shape subchunk f.cuts) (each_passes test parts f.each) in record {
       opened = ap is_some pairs.1;
       cell = λ n below.
-          ap (option_and_then (cell_of_part (cell_at inner elements) fill value n parts)) pairs.1
+          ap (option_and_then (cell_of_part (cell_of_pair (cell_at inner elements) fill value) n parts)) pairs.1
           ∙ (place_read (cell_at inner elements) (decoded inner elements) fill value n parts pairs.0 made.0 each made.1 (parts_cover shape subchunk n f.cuts below)
           ∙ (ap Some (sym (get_or-map-range_with_len (arranged fill parts made.0) 0 (product shape) n n fill below (omega arith))) ∙ ap (λ (xs : List Cell). Some (get_or xs n fill)) made.2));
     }

@@ -1,10 +1,10 @@
 -- Shards: what is written stands, and what stands is read.
 use Rattle.std.proofs.Common.{◌≡◌, ℕ, ◌+◌, ◌-◌, ◌*◌, ◌<◌, ◌≤◌, ◌^◌, List, [], ◌∷◌, ◌++◌, length, map, get_or, take, drop, replicate, ap, ◌∙◌, sym, refl, arith, ◌⊎◌, inl, inr, subst, Option, Some, None, Bool, true, false, ◌==◌, option_map, if◌then◌else◌, append_assoc, length-append, mod-eq_of_lt}
-use Rattle.std.specs.Prelude.{nat_lt}
 use Rattle.std.proofs.lemmas.Bool.{cases_Bool, le-leb, lt-ltb, ltb-true, and_parts}
 use Rattle.std.proofs.lemmas.Map.Views.{exact_unsigned_eq}
 use Rattle.std.proofs.lemmas.Slice.Eq.{bytes_eq-Decides}
 use Rattle.std.proofs.Math.Seq.{take-append_seam, drop-append_seam}
+use Rattle.std.specs.Prelude.{nat_lt}
 use Rattle.zarr_codecs_meaning.specs.Numbers.{number, word}
 use Rattle.zarr_codecs_meaning.specs.Types.{Cell, of_bytes, absent, present, same_cell, is_fill}
 use Rattle.zarr_codecs_meaning.specs.Chains.{Location}
@@ -13,7 +13,7 @@ use Rattle.zarr_codecs_meaning.specs.Places.{gather, position_of, Part}
 use Rattle.zarr_codecs_meaning.specs.Encoding.{Pair, Piece, stored_of, stored_pieces, slice_bytes, joined_slices, pairs_from, pair_cells, base_of, joined}
 use Rattle.zarr_codecs_meaning.specs.Keeping.{arranged}
 use Rattle.zarr_codecs_meaning.specs.Decoding.{is_absent, slice_at, pairs_of_cells, index_bytes}
-use Rattle.zarr_codecs_meaning.specs.Standing.{HasSlice, SliceStands, PiecesStand}
+use Rattle.zarr_codecs_meaning.specs.Standing.{HasSlice, SliceStands, PiecesStand, data_part}
 use Rattle.zarr_codecs_meaning.proofs.Lists.{some_same, bind_some, map_some, Each, every}
 use Rattle.zarr_codecs_meaning.proofs.Digits.{number_digits}
 use Rattle.zarr_codecs_meaning.proofs.Positions.{IsAmong, position_found, gathered_read}
@@ -65,7 +65,7 @@ stored_stand encode inner fill (x ∷ xs) os law e =
     subst (λ (l : List (Option (List ℕ))). SlicesStand inner fill (x ∷ xs) l) rest.2 (first, others)
 
 pub put : (inner : List ℕ → List ℕ → List Cell → Type 0) (fill : Cell) (base : ℕ) («data» : List ℕ) (xs : List Piece) (os : List (Option (List ℕ))) (before : List ℕ) (offset : ℕ) → SlicesStand inner fill xs os → «data» ≡ before ++ joined_slices os → offset ≡ base + length before → offset + length (joined_slices os) < 2 ^ 64 - 1
-    → PiecesStand inner fill base «data» xs (pairs_from offset os)
+    → PiecesStand inner fill (data_part base «data») xs (pairs_from offset os)
 put inner fill base «data» [] [] before offset h is begins low = tt
 put inner fill base «data» [] (o ∷ os) before offset h is begins low = elim h [ ]
 put inner fill base «data» (x ∷ xs) [] before offset h is begins low = elim h [ ]
@@ -113,7 +113,7 @@ pairs_back (p ∷ ps) h =
     ap (λ (n : ℕ). (n, number 256 (word p.1)) ∷ pairs_of_cells (pair_cells ps)) (number_word p.0 h.0)
     ∙ (ap (λ (n : ℕ). (p.0, n) ∷ pairs_of_cells (pair_cells ps)) (number_word p.1 h.1) ∙ ap (λ (qs : List Pair). p ∷ qs) (pairs_back ps h.2))
 
-pub words_of : (inner : List ℕ → List ℕ → List Cell → Type 0) (fill : Cell) (base : ℕ) («data» : List ℕ) (xs : List Piece) (ps : List Pair) → PiecesStand inner fill base «data» xs ps → AreWords ps
+pub words_of : (inner : List ℕ → List ℕ → List Cell → Type 0) (fill : Cell) (base : ℕ) («data» : List ℕ) (xs : List Piece) (ps : List Pair) → PiecesStand inner fill (data_part base «data») xs ps → AreWords ps
 words_of inner fill base «data» [] [] h = tt
 words_of inner fill base «data» [] (p ∷ ps) h = elim h [ ]
 words_of inner fill base «data» (x ∷ xs) [] h = elim h [ ]

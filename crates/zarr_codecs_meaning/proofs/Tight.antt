@@ -1,14 +1,14 @@
 -- What is encoded is tight, and what is tight stands.
 use Rattle.std.proofs.Common.{◌≡◌, ℕ, List, [], ◌∷◌, Some, Bool, true, false, inl, inr}
-use Rattle.std.specs.Prelude.{MatchBool}
 use Rattle.std.proofs.lemmas.Bool.{and_parts}
+use Rattle.std.specs.Prelude.{MatchBool}
 use Rattle.zarr_codecs_meaning.specs.Types.{Elements, Cell, uint64}
 use Rattle.zarr_codecs_meaning.specs.Chains.{Chain}
 use Rattle.zarr_codecs_meaning.specs.Chains.Chain.{bytes, packbits, vlen, optional, after_array_codec, then_bytes, sharded}
 use Rattle.zarr_codecs_meaning.specs.Places.{gather, encoded_shape, source_places, Part, parts_of}
 use Rattle.zarr_codecs_meaning.specs.Fits.{fits, is_lossless, is_plain, array_codec_fits}
 use Rattle.zarr_codecs_meaning.specs.Encoding.{Pair, Piece, pieces_of, encoded}
-use Rattle.zarr_codecs_meaning.specs.Standing.{PieceStands, PiecesStand, IsEncoding, Stands, Tight}
+use Rattle.zarr_codecs_meaning.specs.Standing.{PieceStands, PiecesStand, IsEncoding, Stands, Tight, data_part}
 use Rattle.zarr_codecs_meaning.specs.Laws.{IsLawfulChain, AreCells}
 use Rattle.zarr_codecs_meaning.proofs.Lists.{bind_some, Each}
 use Rattle.zarr_codecs_meaning.proofs.Sizes.{cells_moved}
@@ -17,12 +17,12 @@ use Rattle.zarr_codecs_meaning.proofs.Fitting.{fitted, each_part, each_piece}
 use Rattle.zarr_codecs_meaning.proofs.Meaning.{laws_of, either, shard_stands}
 
 -- what stands by one relation of slices, stands by a weaker one
-relaxed : (one two : List ℕ → List ℕ → List Cell → Type 0) (fill : Cell) (base : ℕ) («data» : List ℕ) (pieces : List Piece) (pairs : List Pair) → Each (λ piece. (v : List ℕ) → one piece.0 v piece.1 → two piece.0 v piece.1) pieces → PiecesStand one fill base «data» pieces pairs → PiecesStand two fill base «data» pieces pairs
+relaxed : (one two : List ℕ → List ℕ → List Cell → Type 0) (fill : Cell) (base : ℕ) («data» : List ℕ) (pieces : List Piece) (pairs : List Pair) → Each (λ piece. (v : List ℕ) → one piece.0 v piece.1 → two piece.0 v piece.1) pieces → PiecesStand one fill (data_part base «data») pieces pairs → PiecesStand two fill (data_part base «data») pieces pairs
 relaxed one two fill base «data» [] [] law h = tt
 relaxed one two fill base «data» [] (p ∷ ps) law h = elim h [ ]
 relaxed one two fill base «data» (x ∷ xs) [] law h = elim h [ ]
 relaxed one two fill base «data» (x ∷ xs) (p ∷ ps) law h =
-    let first : PieceStands two fill base «data» x p = elim h.0 [ inl k ↦ inl k | inr k ↦ inr (k.0, (k.1.0, k.1.1, law.0 k.1.0 k.1.2)) ] in
+    let first : PieceStands two fill (data_part base «data») x p = elim h.0 [ inl k ↦ inl k | inr k ↦ inr (k.0, (k.1.0, k.1.1, law.0 k.1.0 k.1.2)) ] in
     (first, relaxed one two fill base «data» xs ps law.1 h.1)
 
 match_map : (b : Bool) (P Q R : Type 0) → (Q → R) → MatchBool b P Q → MatchBool b P R

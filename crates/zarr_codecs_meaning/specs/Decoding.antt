@@ -141,16 +141,17 @@ pieces_decoded inner fill value (part ∷ parts) (pair ∷ pairs) =
     option_and_then (λ cells. option_map (λ others. cells ∷ others) (pieces_decoded inner fill value parts pairs))
     (if is_absent pair then Some (replicate (product part.shape) fill) else option_and_then (inner part.shape) (slice_at value pair))
 
+-- the cell of a subchunk at a place in it: the fill value where it is absent, else what is read of its slice
+abbrev pub cell_of_pair : (List ℕ → List ℕ → ℕ → Option Cell) → Cell → List ℕ → (List ℕ → Pair → ℕ → Option Cell)
+cell_of_pair inner fill value = λ shape pair n. if is_absent pair then Some fill else option_and_then (λ slice. inner shape slice n) (slice_at value pair)
+
 -- the cell at a place: of the subchunks only the one that holds the place is met
-abbrev pub cell_of_part : (List ℕ → List ℕ → ℕ → Option Cell) → Cell → List ℕ → ℕ → List Part → List Pair → Option Cell
-cell_of_part inner fill value place [] pairs = None
-cell_of_part inner fill value place (part ∷ parts) [] = None
-cell_of_part inner fill value place (part ∷ parts) (pair ∷ pairs) =
+abbrev pub cell_of_part : (List ℕ → Pair → ℕ → Option Cell) → ℕ → List Part → List Pair → Option Cell
+cell_of_part read place [] pairs = None
+cell_of_part read place (part ∷ parts) [] = None
+cell_of_part read place (part ∷ parts) (pair ∷ pairs) =
     let n = position_of place part.places in
-    elim (nat_lt n (length part.places)) [
-      | true ↦ (if is_absent pair then Some fill else option_and_then (λ slice. inner part.shape slice n) (slice_at value pair))
-      | false ↦ cell_of_part inner fill value place parts pairs
-    ]
+    elim (nat_lt n (length part.places)) [ true ↦ read part.shape pair n | false ↦ cell_of_part read place parts pairs ]
 
 -- ---- Decoding
 
@@ -191,7 +192,7 @@ cell_at (after_array_codec codec chain) elements shape value place = cell_at cha
 cell_at (then_bytes chain codec) elements shape value place = option_and_then (λ inside. cell_at chain elements shape inside place) (codec.decode value)
 cell_at (sharded subchunk inner index location) elements shape value place =
     let pairs_shape = index_shape shape subchunk in
-    option_and_then (cell_of_part (cell_at inner elements) elements.fill value place (parts_of shape subchunk))
+    option_and_then (cell_of_part (cell_of_pair (cell_at inner elements) elements.fill value) place (parts_of shape subchunk))
     (pairs_in (decoded index (zero_filled uint64) pairs_shape) location (index_size index pairs_shape) value)
 
 -- whether places can be read at all, also where none is asked for: the bytes codecs undo the value, and its length or its index is right

@@ -1,10 +1,10 @@
 -- What `packbits` makes of elements, and what it decodes a value to.
 use Rattle.std.proofs.Common.{◌≡◌, ℕ, zero, suc, ◌+◌, ◌-◌, ◌*◌, ◌/◌, ◌%◌, ◌^◌, ◌<◌, ◌≤◌, List, [], ◌∷◌, length, map, take, drop, ap, ◌∙◌, sym, subst, refl, arith, Option, Some, None, option_and_then, Bool, true, false, Err, ◌==◌, if◌then◌else◌, length-append, length-drop, length-take, inl, inr}
-use Rattle.std.specs.List.{flat_map, list_all, range_with_len}
-use Rattle.std.specs.Prelude.{nat_lt, nat_le}
 use Rattle.std.proofs.lemmas.Bool.{and_parts, eq-eqb, ne_eqb, leb-true, lt-ltb, cases_lt}
 use Rattle.std.proofs.lemmas.List.FromFn.{length-range_with_len}
 use Rattle.std.proofs.Math.Nat.{mul-mod_left, mul_comm, le-mul_of_pos_right}
+use Rattle.std.specs.List.{flat_map, list_all, range_with_len}
+use Rattle.std.specs.Prelude.{nat_lt, nat_le}
 use Rattle.zarr_grids_boxes.specs.Boxes.{product}
 use Rattle.zarr_codecs_meaning.specs.Numbers.{digits, number}
 use Rattle.zarr_codecs_meaning.specs.Types.{DataType, Component, components, bytes_in, byte_width, is_fixed, is_value, extended, Cell, of_bytes, cell_bytes, Elements}
@@ -23,15 +23,15 @@ use Rattle.zarr_codecs_meaning.proofs.Elements.{on_true, are_bits, each-flat_map
 use Rattle.zarr_codecs_meaning.proofs.Values.{length-digits}
 use Rattle.zarr_codecs_meaning.proofs.Representations.{encoded_size}
 use Rattle.zarr_codecs_arrays.specs.Outcomes.{IsValid}
-use Rattle.zarr_codecs_arrays.proofs.FixedCells.{fixed_in-some, fixed_in-whole, fixed_cells-cons, fixed_cells-nil, length-fixed_cells, whole_length}
-use Rattle.zarr_codecs_types.specs.Parts.{word_sized}
 use Rattle.zarr_codecs_arrays.specs.declared.error.CodecError.{CodecError}
 use Rattle.zarr_codecs_arrays.specs.declared.error.CodecError.TheVariants as error
+use Rattle.zarr_codecs_arrays.proofs.FixedCells.{fixed_in-some, fixed_in-whole, fixed_cells-cons, fixed_cells-nil, length-fixed_cells, whole_length}
+use Rattle.zarr_codecs_types.specs.Parts.{word_sized}
 use Rattle.zarr_codecs_traits.specs.Arrays.{coded}
 use Rattle.zarr_codecs_traits.specs.Outcomes.{Decodes, IsEncoded, IsDecoded}
 use Rattle.zarr_codecs_packbits.specs.Packing.{IsUncounted, kept_of, element_in, bytes_of}
 use Rattle.zarr_codecs_packbits.specs.Turning as turning
-use Rattle.zarr_codecs_packbits.specs.Turning.{bits_of, element_bits_read}
+use Rattle.zarr_codecs_packbits.specs.Turning.{bits_of, element_bits_read, turn_by}
 use Rattle.zarr_codecs_packbits.specs.declared.turning.Turn.{Turn}
 use Rattle.zarr_codecs_packbits.specs.declared.turning.Way.TheVariants.{Keep, Restore}
 use Rattle.zarr_codecs_packbits.proofs.BitLists.{are_bits_each, bits_of_bits, length-bits_of, packed_bits}
@@ -68,15 +68,15 @@ all_bits bytes bits is = ap turning.are_bits is ∙ are_bits_each (bits_of bytes
 
 -- what was kept of elements
 pub kept_is : (turn : Turn) (first : ℕ) (last : Option ℕ) (parts : List Component) (count : ℕ) (bytes bits kept : List ℕ) → turn ≡ record { way = Keep; first = first; last = last } → bits ≡ bits_of bytes
-    → kept ≡ turning.turned turn.way turn.first turn.last parts count bits → 0 < bytes_in parts → length bytes ≡ count * bytes_in parts → Each (λ b. b < 256) bytes → kept ≡ kept_of first last parts bytes
+    → kept ≡ turning.turned turn parts count bits → 0 < bytes_in parts → length bytes ≡ count * bytes_in parts → Each (λ b. b < 256) bytes → kept ≡ kept_of first last parts bytes
 kept_is turn first last parts count bytes bits kept t b k some long h =
-    k ∙ (ap (λ (u : Turn). turning.turned u.way u.first u.last parts count bits) t ∙ (ap (turning.turned Keep first last parts count) b ∙ keep_all first last parts count bytes some long h))
+    k ∙ (ap (λ (u : Turn). turning.turned u parts count bits) t ∙ (ap (turning.turned (turn_by Keep first last) parts count) b ∙ keep_all first last parts count bytes some long h))
 
 -- what was restored of kept bits
 pub restored_is : (turn : Turn) (first : ℕ) (last : Option ℕ) (parts : List Component) (count : ℕ) (given bits all : List ℕ) → turn ≡ record { way = Restore; first = first; last = last } → bits ≡ given
-    → all ≡ turning.turned turn.way turn.first turn.last parts count bits → all ≡ bits_of (bytes_of first last parts count given)
+    → all ≡ turning.turned turn parts count bits → all ≡ bits_of (bytes_of first last parts count given)
 restored_is turn first last parts count given bits all t b k =
-    k ∙ (ap (λ (u : Turn). turning.turned u.way u.first u.last parts count bits) t ∙ (ap (turning.turned Restore first last parts count) b ∙ restore_all first last parts count given))
+    k ∙ (ap (λ (u : Turn). turning.turned u parts count bits) t ∙ (ap (turning.turned (turn_by Restore first last) parts count) b ∙ restore_all first last parts count given))
 
 element_bytes : (first : ℕ) (last : Option ℕ) (parts : List Component) (bits : List ℕ) → Each (λ b. b < 256) (element_of_bits first last parts bits)
 element_bytes first last [] bits = tt

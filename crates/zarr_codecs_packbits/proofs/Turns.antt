@@ -1,9 +1,9 @@
 -- Elements turned to their kept bits, and back.
 use Rattle.std.proofs.Common.{◌≡◌, ℕ, zero, suc, ◌+◌, ◌*◌, ◌/◌, ◌^◌, ◌<◌, ◌≤◌, List, [], ◌∷◌, ◌++◌, length, take, drop, ap, ◌∙◌, sym, refl, arith, Option, length-take, length-drop, take-append-drop}
-use Rattle.std.specs.List.{flat_map, range_with_len}
 use Rattle.std.proofs.lemmas.List.{drop-drop, nil_from_length}
 use Rattle.std.proofs.Math.Seq.{take-add}
 use Rattle.std.proofs.lemmas.List.{take_at, drop_at}
+use Rattle.std.specs.List.{flat_map, range_with_len}
 use Rattle.zarr_codecs_meaning.specs.Numbers.{digits, number}
 use Rattle.zarr_codecs_meaning.specs.Types.{Component, bytes_in, extended, Cell, of_bytes, cell_bytes}
 use Rattle.zarr_codecs_meaning.specs.Fits.{last_kept, kept_bits, bits_in}
@@ -15,7 +15,7 @@ use Rattle.zarr_codecs_arrays.proofs.FixedCells.{fixed_cells-cons, fixed_cells-n
 use Rattle.zarr_codecs_packbits.specs.declared.turning.Way.{Way}
 use Rattle.zarr_codecs_packbits.specs.declared.turning.Way.TheVariants.{Keep, Restore}
 use Rattle.zarr_codecs_packbits.specs.Packing.{bytes_of, element_in}
-use Rattle.zarr_codecs_packbits.specs.Turning.{bits_of, bits_read, component_turned, element_bits_read, element_turned, turned}
+use Rattle.zarr_codecs_packbits.specs.Turning.{bits_of, bits_read, component_turned, element_bits_read, element_turned, turned, turn_by}
 use Rattle.zarr_codecs_packbits.proofs.BitLists.{bits_append, bits_number, take_bits, drop_bits, bits_of_digits}
 
 -- the first component of an element, and the others
@@ -51,7 +51,7 @@ keep_element first last (c ∷ cs) element long h =
 
 -- what is kept of elements, one after another
 pub keep_all : (first : ℕ) (last : Option ℕ) (parts : List Component) (count : ℕ) (given : List ℕ) → 0 < bytes_in parts → length given ≡ count * bytes_in parts → Each (λ b. b < 256) given
-    → turned Keep first last parts count (bits_of given) ≡ flat_map (λ cell. element_bits first last parts (cell_bytes cell)) (fixed_cells (bytes_in parts) given)
+    → turned (turn_by Keep first last) parts count (bits_of given) ≡ flat_map (λ cell. element_bits first last parts (cell_bytes cell)) (fixed_cells (bytes_in parts) given)
 keep_all first last parts zero given some long h =
     let empty : given ≡ [] = nil_from_length given (long ∙ omega arith) in
     sym (ap (λ ns. flat_map (λ cell. element_bits first last parts (cell_bytes cell)) (fixed_cells (bytes_in parts) ns)) empty ∙ ap (flat_map (λ cell. element_bits first last parts (cell_bytes cell))) (fixed_cells-nil (bytes_in parts)))
@@ -65,10 +65,10 @@ keep_all first last parts (suc count) given some long h =
     let one : length front ≡ width = length-take width given ∙ omega (arith, enough) in
     let cells : fixed_cells width given ≡ of_bytes front ∷ fixed_cells width back = ap (fixed_cells width) (sym (take-append-drop width given)) ∙ fixed_cells-cons width front back some one in
     let read = keep_read first last parts in
-    ap (λ n. element_turned Keep first last parts (take n (bits_of given)) ++ turned Keep first last parts count (drop n (bits_of given))) read
-    ∙ (ap (λ ns. element_turned Keep first last parts ns ++ turned Keep first last parts count (drop (8 * width) (bits_of given))) (take_bits width given enough)
-    ∙ (ap (λ ns. element_turned Keep first last parts (bits_of front) ++ turned Keep first last parts count ns) (drop_bits width given enough)
-    ∙ (ap (λ ns. ns ++ turned Keep first last parts count (bits_of back)) (keep_element first last parts front (omega (arith, one)) (each-take (λ b. b < 256) width given h))
+    ap (λ n. element_turned Keep first last parts (take n (bits_of given)) ++ turned (turn_by Keep first last) parts count (drop n (bits_of given))) read
+    ∙ (ap (λ ns. element_turned Keep first last parts ns ++ turned (turn_by Keep first last) parts count (drop (8 * width) (bits_of given))) (take_bits width given enough)
+    ∙ (ap (λ ns. element_turned Keep first last parts (bits_of front) ++ turned (turn_by Keep first last) parts count ns) (drop_bits width given enough)
+    ∙ (ap (λ ns. ns ++ turned (turn_by Keep first last) parts count (bits_of back)) (keep_element first last parts front (omega (arith, one)) (each-take (λ b. b < 256) width given h))
     ∙ (ap (λ ns. make (of_bytes front) ++ ns) (keep_all first last parts count back some (length-drop width given ∙ omega (arith, long, sum)) (each-drop (λ b. b < 256) width given h))
     ∙ sym (ap (flat_map make) cells)))))
 
@@ -89,7 +89,7 @@ restore_element first last (c ∷ cs) bits =
 
 -- elements of kept bits, from one on
 restore_from : (first : ℕ) (last : Option ℕ) (parts : List Component) (bits : List ℕ) (start count : ℕ)
-    → turned Restore first last parts count (drop (start * bits_in first last parts) bits) ≡ bits_of (flat_map (element_in first last parts bits) (range_with_len start count))
+    → turned (turn_by Restore first last) parts count (drop (start * bits_in first last parts) bits) ≡ bits_of (flat_map (element_in first last parts bits) (range_with_len start count))
 restore_from first last parts bits start zero = refl
 restore_from first last parts bits start (suc count) =
     let width = bits_in first last parts in
@@ -97,13 +97,13 @@ restore_from first last parts bits start (suc count) =
     let element = element_of_bits first last parts (take width rest) in
     let others = flat_map (element_in first last parts bits) (range_with_len (start + 1) count) in
     let next : drop width rest ≡ drop ((start + 1) * width) bits = let e : start * width + width ≡ (start + 1) * width = grind arith in drop-drop width (start * width) bits ∙ ap (λ n. drop n bits) e in
-    ap (λ n. element_turned Restore first last parts (take n rest) ++ turned Restore first last parts count (drop n rest)) (restore_read first last parts)
-    ∙ (ap (λ ns. ns ++ turned Restore first last parts count (drop width rest)) (restore_element first last parts (take width rest))
-    ∙ (ap (λ ns. bits_of element ++ turned Restore first last parts count ns) next
+    ap (λ n. element_turned Restore first last parts (take n rest) ++ turned (turn_by Restore first last) parts count (drop n rest)) (restore_read first last parts)
+    ∙ (ap (λ ns. ns ++ turned (turn_by Restore first last) parts count (drop width rest)) (restore_element first last parts (take width rest))
+    ∙ (ap (λ ns. bits_of element ++ turned (turn_by Restore first last) parts count ns) next
     ∙ (ap (λ ns. bits_of element ++ ns) (restore_from first last parts bits (start + 1) count) ∙ sym (bits_append element others))))
 
 -- elements of kept bits, one after another
-pub restore_all : (first : ℕ) (last : Option ℕ) (parts : List Component) (count : ℕ) (bits : List ℕ) → turned Restore first last parts count bits ≡ bits_of (bytes_of first last parts count bits)
+pub restore_all : (first : ℕ) (last : Option ℕ) (parts : List Component) (count : ℕ) (bits : List ℕ) → turned (turn_by Restore first last) parts count bits ≡ bits_of (bytes_of first last parts count bits)
 restore_all first last parts count bits =
     let start : 0 * bits_in first last parts ≡ 0 = omega arith in
-    sym (ap (λ n. turned Restore first last parts count (drop n bits)) start) ∙ restore_from first last parts bits 0 count
+    sym (ap (λ n. turned (turn_by Restore first last) parts count (drop n bits)) start) ∙ restore_from first last parts bits 0 count

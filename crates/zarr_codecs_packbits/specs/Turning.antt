@@ -4,6 +4,7 @@ use Rattle.std.specs.List.{list_all, flat_map}
 use Rattle.zarr_codecs_meaning.specs.Numbers.{digits, number}
 use Rattle.zarr_codecs_meaning.specs.Types.{Component, Sign, signed, unsigned, extended}
 use Rattle.zarr_codecs_meaning.specs.Fits.{last_kept, kept_bits}
+use Rattle.zarr_codecs_packbits.specs.declared.turning.Turn.{Turn}
 use Rattle.zarr_codecs_packbits.specs.declared.turning.Way.{Way}
 use Rattle.zarr_codecs_packbits.specs.declared.turning.Way.TheVariants.{Keep, Restore}
 
@@ -41,8 +42,13 @@ element_turned way first last [] bits = []
 element_turned way first last (c ∷ cs) bits =
     component_turned way first last c (take (bits_read way first last c) bits) ++ element_turned way first last cs (drop (bits_read way first last c) bits)
 
+-- the turn this way of the bits from the first to the last that are kept
+abbrev pub turn_by : Way → ℕ → Option ℕ → Turn
+turn_by way first last = record { way = way; first = first; last = last }
+
 -- so many elements, one after another
-abbrev pub turned : Way → ℕ → Option ℕ → List Component → ℕ → List ℕ → List ℕ
-turned way first last parts zero bits = []
-turned way first last parts (suc count) bits =
-    element_turned way first last parts (take (element_bits_read way first last parts) bits) ++ turned way first last parts count (drop (element_bits_read way first last parts) bits)
+abbrev pub turned : Turn → List Component → ℕ → List ℕ → List ℕ
+turned turn parts zero bits = []
+turned turn parts (suc count) bits =
+    let read = element_bits_read turn.way turn.first turn.last parts in
+    element_turned turn.way turn.first turn.last parts (take read bits) ++ turned turn parts count (drop read bits)

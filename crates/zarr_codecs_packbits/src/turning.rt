@@ -55,8 +55,8 @@ pub(crate) fn put_turned(
     requires bits { are_bits bits.now ≡ true }
     requires enough { count * element_bits_read turn.way turn.first turn.last
         (components_of parts.now) ≤ length bits.now }
-    ensures { OnOk result (out.new.items ≡ turned turn.way turn.first turn.last
-        (components_of parts.now) count bits.now) }
+    ensures { OnOk result (out.new.items
+        ≡ turned turn (components_of parts.now) count bits.now) }
 {
     out.clear();
     let mut rest = bits;

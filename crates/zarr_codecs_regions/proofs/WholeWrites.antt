@@ -27,7 +27,7 @@ use Rattle.zarr_codecs_traits.specs.PartWriting.{AfterPut, IsEncodedInto, MeetsL
 use Rattle.zarr_codecs_traits.specs.ShardWrites.{IsStoredGapless}
 use Rattle.zarr_codecs_traits.specs.Sources.{value_bytes}
 use Rattle.zarr_codecs_traits.proofs.Damage.{decoded_intact}
-use Rattle.zarr_codecs_regions.specs.Updates.{IsUpdated, Updates}
+use Rattle.zarr_codecs_regions.specs.Updates.{CanUpdate, Updates, array_places}
 use Rattle.zarr_codecs_regions.specs.Whole.{CanBePut, EncodesOrDrops, IsStoredAs}
 use Rattle.zarr_codecs_regions.proofs.Shown.{after_decoded, map_put, put_cells, shown_cells, standing_decoded, stored_cells, stored_opens, tight_standing}
 
@@ -127,9 +127,10 @@ pub record HasUpdated (chain : Chain) (elements : Elements) (shape : List ℕ) (
 
 pub has_updated : (chain : Chain) (elements : Elements) (type : DataType) (shape : List ℕ) (asked : Asked) (payload array made : Payload) (old : Option (List ℕ)) (before given : List Cell)
     → IsLawfulChain chain → is_value elements.type elements.fill ≡ true → CanBePut chain elements shape asked payload → IsStoredAs chain elements shape old array → type ≡ elements.type
-    → IsUpdated type shape asked array payload made before given → HasUpdated chain elements shape asked payload array made old
-has_updated chain elements type shape asked payload array made old before given lawful fill can stored same updated =
-    let u = subst (λ t. IsUpdated t shape asked array payload made before given) same updated in
+    → CanUpdate (array_places type shape asked) array payload before given → cells_in type made ≡ Some (put (numbers_asked shape asked) given before) → HasUpdated chain elements shape asked payload array made old
+has_updated chain elements type shape asked payload array made old before given lawful fill can stored same updates made_is =
+    let u = subst (λ t. CanUpdate (array_places t shape asked) array payload before given) same updates in
+    let made_are = subst (λ t. cells_in t made ≡ Some (put (numbers_asked shape asked) given before)) same made_is in
     let old_are : before ≡ stored.cells = some_same (sym u.array_is.lists ∙ stored.lists) in
     let new_are : given ≡ can.cells = some_same (sym u.update_is.lists ∙ can.valid.is.lists) in
     record {
@@ -138,7 +139,7 @@ has_updated chain elements type shape asked payload array made old before given 
       fill = fill;
       can = can;
       stored = stored.is;
-      lists = u.made_is ∙ (ap (λ cs. Some (put (numbers_asked shape asked) cs before)) new_are ∙ ap (λ bs. Some (put (numbers_asked shape asked) can.cells bs)) old_are);
+      lists = made_are ∙ (ap (λ cs. Some (put (numbers_asked shape asked) cs before)) new_are ∙ ap (λ bs. Some (put (numbers_asked shape asked) can.cells bs)) old_are);
     }
 
 -- whether cells that are listed are all fill
@@ -249,7 +250,7 @@ encode_refused chain exact elements shape asked payload array made old (Err e) h
     absurd (not_invalid elements.type made (product shape) (put (numbers_asked shape asked) h.can.cells h.before) e (updated_valid chain elements shape asked payload array made old h) why.encodes.1)
 
 pub update_refused : (A : Type 0) (chain : Chain) (elements : Elements) (type : DataType) (shape : List ℕ) (asked : Asked) (payload array : Payload) (old : Option (List ℕ)) (before : List Cell) (e : CodecError)
-    → fits chain elements.type shape ≡ true → IsCounted elements.type array (product shape) before → type ≡ elements.type → Updates type shape asked array payload (Err e) → NotEncodedWhole {A = A} (coded chain elements shape) (update_of asked payload old) (Err e)
+    → fits chain elements.type shape ≡ true → IsCounted elements.type array (product shape) before → type ≡ elements.type → Updates (array_places type shape asked) array payload (Err e) → NotEncodedWhole {A = A} (coded chain elements shape) (update_of asked payload old) (Err e)
 update_refused A chain elements type shape asked payload array old before error.IncompatibleIndexer fit counted same why = why
 update_refused A chain elements type shape asked payload array old before error.Size fit counted same why = inl (inl why)
 update_refused A chain elements type shape asked payload array old before error.Memory fit counted same why = tt

@@ -2,7 +2,7 @@
 ghost use Rattle.zarr_codecs_types.specs.Views.{type_of};
 ghost use Rattle.zarr_codecs_arrays.specs.Views.{payload_of};
 ghost use Rattle.zarr_codecs_traits.specs.Indexers.{asked_of};
-ghost use Rattle.zarr_codecs_regions.specs.Updates.{Extracts, Updates};
+ghost use Rattle.zarr_codecs_regions.specs.Updates.{Extracts, Updates, array_places};
 
 use crate::asked::test_asked;
 use crate::putting::put_asked;
@@ -26,7 +26,7 @@ pub fn extract_array_subset(
     indexer: Indexer<'_>,
     data_type: &DataType,
 ) -> Result<ArrayBytes, CodecError>
-    ensures { Extracts (type_of data_type.now) shape.now (asked_of indexer.entry)
+    ensures { Extracts (array_places (type_of data_type.now) shape.now (asked_of indexer.entry))
         (payload_of bytes.now) result }
 {
     let Some(count) = count_places(shape) else {
@@ -55,7 +55,7 @@ pub fn update_array_bytes(
     update: &ArrayBytes,
     data_type: &DataType,
 ) -> Result<ArrayBytes, CodecError>
-    ensures { Updates (type_of data_type.now) shape.now (asked_of indexer.entry)
+    ensures { Updates (array_places (type_of data_type.now) shape.now (asked_of indexer.entry))
         (payload_of bytes) (payload_of update.now) result }
 {
     let Some(count) = count_places(shape) else {

@@ -9,7 +9,7 @@ use Rattle.zarr_codecs_meaning.specs.Decoding.{elements_between, elements_of, re
 use Rattle.zarr_codecs_meaning.specs.Keeping.{spread}
 use Rattle.zarr_codecs_meaning.specs.Refusals.{offsets_of, SomeRefused}
 use Rattle.zarr_codecs_sections.specs.Outcomes.{offsets_read}
-use Rattle.zarr_codecs_sections.specs.Laws.{content_of, VariableIsEncoded, VariableDecodings, VlenRefusals, found_in, OptionsAreEncoded, found_read, OptionsDecodings, OptionalRefusals, IsUnlessNone, IsReadUnlessNone}
+use Rattle.zarr_codecs_sections.specs.Laws.{content_of, VariableIsEncoded, VariableDecodings, VlenRefusals, found_in, OptionsAreEncoded, found_read, OptionsDecodings, OptionalRefusals, IsUnlessNone, IsReadUnlessNone, value_sections, vlen_parts}
 
 -- ---- `vlen`, encoded
 
@@ -47,7 +47,7 @@ read_none read (first ∷ ends) h = by_test (first == 0) refl where
       ap (λ o. if first == 0 then option_and_then (elements_between 0 ends) o else None) none ∙ neither (first == 0) None refl
   by_test false e = ap (λ (b : Bool). if b then option_and_then (elements_between 0 ends) (read (last_number 0 ends)) else None) e
 
-pub variable_is_decoded : (index : List ℕ → Option (List Cell)) («data» : ℕ → List ℕ → Option (List Cell)) (location : Location) (value front back : List ℕ) (offsets : List Cell) → VariableDecodings index «data» location value front back offsets
+pub variable_is_decoded : (index : List ℕ → Option (List Cell)) («data» : ℕ → List ℕ → Option (List Cell)) (location : Location) (value front back : List ℕ) (offsets : List Cell) → VariableDecodings index «data» location (value_sections value front back) offsets
 variable_is_decoded index «data» location value front back offsets =
     let after = λ (sections : List ℕ × List ℕ). option_and_then (λ offsets. option_map (map of_bytes) (elements_of (λ (long : ℕ). option_map (flat_map cell_bytes) (read_unless_none long sections.1 («data» long))) (map (λ offset. number 256 (cell_bytes offset)) offsets))) (index sections.0) in
     let cells = λ (offsets : List Cell). option_map (map of_bytes) (elements_of (λ (long : ℕ). option_map (flat_map cell_bytes) (read_unless_none long back («data» long))) (offsets_read offsets)) in
@@ -70,7 +70,7 @@ some_refused : (cells : List Cell) (R : Type 0) → 0 < length cells → R → S
 some_refused [] R some r = absurd (omega arith)
 some_refused (c ∷ cells) R some r = r
 
-pub vlen_is_refused : (index «data» : Chain) (width : ℕ) (location : Location) (elements : Elements) (shape : List ℕ) (cells : List Cell) → VlenRefusals index «data» width location elements shape cells
+pub vlen_is_refused : (index «data» : Chain) (width : ℕ) (location : Location) (elements : Elements) (shape : List ℕ) (cells : List Cell) → VlenRefusals (vlen_parts index «data» width location) elements shape cells
 vlen_is_refused index «data» width location elements shape cells = record {
   offset_passes = λ h. inl h;
   index_refuses = λ h. inl h;
@@ -95,7 +95,7 @@ options_are_encoded mask values cells front back value one two joined =
     let after = λ (f : List ℕ). option_and_then (with_mask f) (unless_none found (values found)) in
     ap (option_and_then after) one ∙ (ap (option_and_then (with_mask front)) two ∙ joined)
 
-pub options_are_decoded : (mask : List ℕ → Option (List Cell)) (values : ℕ → List ℕ → Option (List Cell)) (value front back : List ℕ) (masks : List Cell) → OptionsDecodings mask values value front back masks
+pub options_are_decoded : (mask : List ℕ → Option (List Cell)) (values : ℕ → List ℕ → Option (List Cell)) (value front back : List ℕ) (masks : List Cell) → OptionsDecodings mask values (value_sections value front back) masks
 options_are_decoded mask values value front back masks =
     let after = λ (sections : List ℕ × List ℕ). option_and_then (λ masks. option_map (spread masks) (read_unless_none (count_present masks) sections.1 (values (count_present masks)))) (mask sections.0) in
     let found = λ (masks : List Cell). option_map (spread masks) (found_read values masks back) in

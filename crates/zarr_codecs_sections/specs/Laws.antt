@@ -11,6 +11,16 @@ use Rattle.zarr_codecs_meaning.specs.Keeping.{spread}
 use Rattle.zarr_codecs_meaning.specs.Refusals.{offsets_of, CodecRefuses, PassesIndex}
 use Rattle.zarr_codecs_sections.specs.Outcomes.{offsets_read}
 
+-- a value, and the bytes of its two sections: the index or the mask, and the data
+pub record ValueSections : Type 0 where
+  pub value : List ℕ
+  pub first : List ℕ
+  pub second : List ℕ
+
+-- this value, with these bytes as its two sections
+abbrev pub value_sections : List ℕ → List ℕ → List ℕ → ValueSections
+value_sections value first second = record { value = value; first = first; second = second }
+
 -- ---- `vlen`
 
 -- the joined bytes of elements of variable length, as elements
@@ -29,31 +39,46 @@ abbrev pub content_read : (ℕ → List ℕ → Option (List Cell)) → List Cel
 content_read «data» offsets back = let long = last_number 0 (offsets_read offsets) in read_unless_none long back («data» long)
 
 -- what elements of variable length are decoded to, by what their two sections are decoded to
-pub record VariableDecodings (index : List ℕ → Option (List Cell)) («data» : ℕ → List ℕ → Option (List Cell)) (location : Location) (value front back : List ℕ) (offsets : List Cell) : Type 0 where
-  pub short : sections_of location value ≡ None → variable_decoded index «data» location value ≡ None
-  pub index_damaged : sections_of location value ≡ Some (front, back) → index front ≡ None → variable_decoded index «data» location value ≡ None
-  pub content_damaged : sections_of location value ≡ Some (front, back) → index front ≡ Some offsets → content_read «data» offsets back ≡ None → variable_decoded index «data» location value ≡ None
-  pub uncut : (content : List Cell) → sections_of location value ≡ Some (front, back) → index front ≡ Some offsets → content_read «data» offsets back ≡ Some content → elements_of (λ long. Some (flat_map cell_bytes content)) (offsets_read offsets) ≡ None
-      → variable_decoded index «data» location value ≡ None
-  pub decoded : (content : List Cell) (elements : List (List ℕ)) → sections_of location value ≡ Some (front, back) → index front ≡ Some offsets → content_read «data» offsets back ≡ Some content
-      → elements_of (λ long. Some (flat_map cell_bytes content)) (offsets_read offsets) ≡ Some elements → variable_decoded index «data» location value ≡ Some (map of_bytes elements)
+pub record VariableDecodings (index : List ℕ → Option (List Cell)) («data» : ℕ → List ℕ → Option (List Cell)) (location : Location) (bytes : ValueSections) (offsets : List Cell) : Type 0 where
+  pub short : sections_of location bytes.value ≡ None → variable_decoded index «data» location bytes.value ≡ None
+  pub index_damaged : sections_of location bytes.value ≡ Some (bytes.first, bytes.second) → index bytes.first ≡ None → variable_decoded index «data» location bytes.value ≡ None
+  pub content_damaged : sections_of location bytes.value ≡ Some (bytes.first, bytes.second) → index bytes.first ≡ Some offsets → content_read «data» offsets bytes.second ≡ None → variable_decoded index «data» location bytes.value ≡ None
+  pub uncut : (content : List Cell) → sections_of location bytes.value ≡ Some (bytes.first, bytes.second) → index bytes.first ≡ Some offsets → content_read «data» offsets bytes.second ≡ Some content → elements_of (λ long. Some (flat_map cell_bytes content)) (offsets_read offsets) ≡ None
+      → variable_decoded index «data» location bytes.value ≡ None
+  pub decoded : (content : List Cell) (elements : List (List ℕ)) → sections_of location bytes.value ≡ Some (bytes.first, bytes.second) → index bytes.first ≡ Some offsets → content_read «data» offsets bytes.second ≡ Some content
+      → elements_of (λ long. Some (flat_map cell_bytes content)) (offsets_read offsets) ≡ Some elements → variable_decoded index «data» location bytes.value ≡ Some (map of_bytes elements)
 
 -- elements of variable length are decoded section by section, and each damage is one of a section or of the offsets
 abbrev pub VariableIsDecoded : Type 0
 VariableIsDecoded =
-    (index : List ℕ → Option (List Cell)) («data» : ℕ → List ℕ → Option (List Cell)) (location : Location) (value front back : List ℕ) (offsets : List Cell) → VariableDecodings index «data» location value front back offsets
+    (index : List ℕ → Option (List Cell)) («data» : ℕ → List ℕ → Option (List Cell)) (location : Location) (value front back : List ℕ) (offsets : List Cell) → VariableDecodings index «data» location (value_sections value front back) offsets
+
+-- the `vlen` codec: the chains of its index and of its data, how wide the index's numbers are, and where the index stands
+pub record VlenParts : Type 0 where
+  pub index : Chain
+  pub «data» : Chain
+  pub width : ℕ
+  pub location : Location
+
+-- `vlen` of these two chains, with offsets of this width and the index there
+abbrev pub vlen_parts : Chain → Chain → ℕ → Location → VlenParts
+vlen_parts index «data» width location = record { index = index; «data» = «data»; width = width; location = location }
+
+-- the chain of such a codec
+abbrev pub chain_of_vlen : VlenParts → Chain
+chain_of_vlen codec = vlen codec.index codec.«data» codec.width codec.location
 
 -- why `vlen` refuses cells, by why the chains inside of it refuse
-pub record VlenRefusals (index «data» : Chain) (width : ℕ) (location : Location) (elements : Elements) (shape : List ℕ) (cells : List Cell) : Type 0 where
-  pub offset_passes : 2 ^ width ≤ last_number 0 (offsets_of cells) → PassesIndex (vlen index «data» width location) elements shape cells
-  pub index_refuses : CodecRefuses index (zero_filled (integer unsigned width)) ((product shape + 1) ∷ []) (number_cells width (offsets_of cells)) → CodecRefuses (vlen index «data» width location) elements shape cells
-  pub index_passes : PassesIndex index (zero_filled (integer unsigned width)) ((product shape + 1) ∷ []) (number_cells width (offsets_of cells)) → PassesIndex (vlen index «data» width location) elements shape cells
-  pub content_refuses : 0 < length (content_of cells) → CodecRefuses «data» (zero_filled uint8) (length (content_of cells) ∷ []) (content_of cells) → CodecRefuses (vlen index «data» width location) elements shape cells
-  pub content_passes : 0 < length (content_of cells) → PassesIndex «data» (zero_filled uint8) (length (content_of cells) ∷ []) (content_of cells) → PassesIndex (vlen index «data» width location) elements shape cells
+pub record VlenRefusals (codec : VlenParts) (elements : Elements) (shape : List ℕ) (cells : List Cell) : Type 0 where
+  pub offset_passes : 2 ^ codec.width ≤ last_number 0 (offsets_of cells) → PassesIndex (chain_of_vlen codec) elements shape cells
+  pub index_refuses : CodecRefuses codec.index (zero_filled (integer unsigned codec.width)) ((product shape + 1) ∷ []) (number_cells codec.width (offsets_of cells)) → CodecRefuses (chain_of_vlen codec) elements shape cells
+  pub index_passes : PassesIndex codec.index (zero_filled (integer unsigned codec.width)) ((product shape + 1) ∷ []) (number_cells codec.width (offsets_of cells)) → PassesIndex (chain_of_vlen codec) elements shape cells
+  pub content_refuses : 0 < length (content_of cells) → CodecRefuses codec.«data» (zero_filled uint8) (length (content_of cells) ∷ []) (content_of cells) → CodecRefuses (chain_of_vlen codec) elements shape cells
+  pub content_passes : 0 < length (content_of cells) → PassesIndex codec.«data» (zero_filled uint8) (length (content_of cells) ∷ []) (content_of cells) → PassesIndex (chain_of_vlen codec) elements shape cells
 
 -- `vlen` refuses where a chain inside of it does, or the last offset is too large
 abbrev pub VlenIsRefused : Type 0
-VlenIsRefused = (index «data» : Chain) (width : ℕ) (location : Location) (elements : Elements) (shape : List ℕ) (cells : List Cell) → VlenRefusals index «data» width location elements shape cells
+VlenIsRefused = (index «data» : Chain) (width : ℕ) (location : Location) (elements : Elements) (shape : List ℕ) (cells : List Cell) → VlenRefusals (vlen_parts index «data» width location) elements shape cells
 
 -- ---- `optional`
 
@@ -72,15 +97,15 @@ abbrev pub found_read : (ℕ → List ℕ → Option (List Cell)) → List Cell 
 found_read values masks back = read_unless_none (count_present masks) back (values (count_present masks))
 
 -- what optional elements are decoded to, by what their two sections are decoded to
-pub record OptionsDecodings (mask : List ℕ → Option (List Cell)) (values : ℕ → List ℕ → Option (List Cell)) (value front back : List ℕ) (masks : List Cell) : Type 0 where
-  pub short : masked_of value ≡ None → options_decoded mask values value ≡ None
-  pub mask_damaged : masked_of value ≡ Some (front, back) → mask front ≡ None → options_decoded mask values value ≡ None
-  pub found_damaged : masked_of value ≡ Some (front, back) → mask front ≡ Some masks → found_read values masks back ≡ None → options_decoded mask values value ≡ None
-  pub decoded : (found : List Cell) → masked_of value ≡ Some (front, back) → mask front ≡ Some masks → found_read values masks back ≡ Some found → options_decoded mask values value ≡ Some (spread masks found)
+pub record OptionsDecodings (mask : List ℕ → Option (List Cell)) (values : ℕ → List ℕ → Option (List Cell)) (bytes : ValueSections) (masks : List Cell) : Type 0 where
+  pub short : masked_of bytes.value ≡ None → options_decoded mask values bytes.value ≡ None
+  pub mask_damaged : masked_of bytes.value ≡ Some (bytes.first, bytes.second) → mask bytes.first ≡ None → options_decoded mask values bytes.value ≡ None
+  pub found_damaged : masked_of bytes.value ≡ Some (bytes.first, bytes.second) → mask bytes.first ≡ Some masks → found_read values masks bytes.second ≡ None → options_decoded mask values bytes.value ≡ None
+  pub decoded : (found : List Cell) → masked_of bytes.value ≡ Some (bytes.first, bytes.second) → mask bytes.first ≡ Some masks → found_read values masks bytes.second ≡ Some found → options_decoded mask values bytes.value ≡ Some (spread masks found)
 
 -- optional elements are decoded section by section, and each damage is one of a section
 abbrev pub OptionsAreDecoded : Type 0
-OptionsAreDecoded = (mask : List ℕ → Option (List Cell)) (values : ℕ → List ℕ → Option (List Cell)) (value front back : List ℕ) (masks : List Cell) → OptionsDecodings mask values value front back masks
+OptionsAreDecoded = (mask : List ℕ → Option (List Cell)) (values : ℕ → List ℕ → Option (List Cell)) (value front back : List ℕ) (masks : List Cell) → OptionsDecodings mask values (value_sections value front back) masks
 
 -- why `optional` refuses cells, by why the chains inside of it refuse
 pub record OptionalRefusals (mask values : Chain) (elements : Elements) (shape : List ℕ) (cells : List Cell) : Type 0 where

@@ -1,9 +1,9 @@
 -- Chains around a shard read from the metadata of their codecs.
 use Rattle.std.proofs.Common.{◌≡◌, ◌∙◌, ◌⊎◌, ℕ, List, [], ◌∷◌, length, drop, map, codes, Bool, true, false, if◌then◌else◌, ap, sym, subst, refl, inl, inr, Option, Some, None, option_map, option_and_then, Result, Ok, Err}
-use Rattle.std.specs.Prelude.{IfOk, MatchOption}
 use Rattle.std.proofs.lemmas.Bool.{true≢false}
 use Rattle.std.proofs.lemmas.List.{drop-map, length-map}
 use Rattle.std.proofs.lemmas.Slice.Eq.{bytes_eq-Decides}
+use Rattle.std.specs.Prelude.{IfOk, MatchOption}
 use Rattle.zarr_grids_metadata.specs.ExtensionPoints.{ExtensionPoint, configuration_members}
 use Rattle.zarr_grids_metadata.specs.Views.{point_view}
 use Rattle.zarr_grids_metadata.specs.declared.error.PluginCreateError.{PluginCreateError}
@@ -29,7 +29,7 @@ use Rattle.zarr_sharding_codec.specs.Configured.{RefusesShard}
 use Rattle.zarr_sharding_codec.specs.Views.{index_of, inner_of}
 use Rattle.zarr_sharding_codec.specs.declared.codec.ShardingCodec.{ShardingCodec}
 use Rattle.zarr_sharding_chains.specs.Metadata.{NamesShard}
-use Rattle.zarr_sharding_chains.specs.Refusals.{EitherCause, ReadsInner, RefusesFirst, RefusesInner, RefusesNamed, RefusesSharded}
+use Rattle.zarr_sharding_chains.specs.Refusals.{EitherCause, ReadsInner, RefusesFirst, RefusesInner, RefusesNamed, RefusesSharded, inner_chains}
 
 -- ---- the array codecs that metadata begins with
 
@@ -109,7 +109,7 @@ named_no_shard name h = at (names_shard name) refl where
 -- what names no shard is refused by its name
 pub other_refused : (reads : ReadsCodecs) (inner : ReadsInner) (refuses : RefusesInner) (point : ExtensionPoint) (points : List ExtensionPoint) (cause : PluginCreateError) → names_shard point.name ≡ false → cause ≡ cause_of (names_array_codec point.name)
     → RefusesFirst reads inner refuses (point ∷ points) cause
-other_refused reads inner refuses point points cause other is = subst (λ (b : Bool). EitherCause b (RefusesNamed reads inner refuses point points cause) (cause ≡ cause_of (names_array_codec point.name))) (sym other) is
+other_refused reads inner refuses point points cause other is = subst (λ (b : Bool). EitherCause b (RefusesNamed reads (inner_chains inner refuses) point points cause) (cause ≡ cause_of (names_array_codec point.name))) (sym other) is
 
 pub misconfigured : (reads : ReadsCodecs) (inner : ReadsInner) (refuses : RefusesInner) (points : List ExtensionPoint) → is_array_codec_misconfigured points ≡ true → RefusesSharded reads inner refuses points plugin.MetadataInvalid
 misconfigured reads inner refuses [] h = absurd (cc)
@@ -188,9 +188,9 @@ pub said_unconfigured : (reads : ReadsCodecs) (inner : ReadsInner) (point : Exte
 said_unconfigured reads inner point named is = said_named reads inner point named ∙ ap (option_and_then (shard_of inner (allowed_chain reads))) is
 
 -- why it is refused
-named_refused : (reads : ReadsCodecs) (inner : ReadsInner) (refuses : RefusesInner) (point : ExtensionPoint) (points : List ExtensionPoint) (cause : PluginCreateError) → names_shard point.name ≡ true → RefusesNamed reads inner refuses point points cause
+named_refused : (reads : ReadsCodecs) (inner : ReadsInner) (refuses : RefusesInner) (point : ExtensionPoint) (points : List ExtensionPoint) (cause : PluginCreateError) → names_shard point.name ≡ true → RefusesNamed reads (inner_chains inner refuses) point points cause
     → RefusesFirst reads inner refuses (point ∷ points) cause
-named_refused reads inner refuses point points cause named refused = subst (λ (b : Bool). EitherCause b (RefusesNamed reads inner refuses point points cause) (cause ≡ cause_of (names_array_codec point.name))) (sym named) refused
+named_refused reads inner refuses point points cause named refused = subst (λ (b : Bool). EitherCause b (RefusesNamed reads (inner_chains inner refuses) point points cause) (cause ≡ cause_of (names_array_codec point.name))) (sym named) refused
 
 pub unconfigured_refused : (reads : ReadsCodecs) (inner : ReadsInner) (refuses : RefusesInner) (point : ExtensionPoint) (points : List ExtensionPoint) (cause : PluginCreateError) → names_shard point.name ≡ true
     → shard_points_in (configuration_members point.configuration) ≡ None → cause ≡ plugin.MetadataInvalid → RefusesFirst reads inner refuses (point ∷ points) cause

@@ -22,21 +22,30 @@ ReadsInner = List ExtensionPoint → Option Chain
 abbrev pub RefusesInner : Type 1
 RefusesInner = List ExtensionPoint → PluginCreateError → Type 0
 
+-- the chains of a shard's subchunks: what extension points say, and why others are refused
+pub record InnerChains : Type 1 where
+  pub reads : ReadsInner
+  pub refuses : RefusesInner
+
+-- the chains that are read so and refused so
+abbrev pub inner_chains : ReadsInner → RefusesInner → InnerChains
+inner_chains reads refuses = record { reads = reads; refuses = refuses }
+
 -- the first cause where something is so, else the second
 abbrev pub EitherCause : Bool → Type 0 → Type 0 → Type 0
 EitherCause true one other = one
 EitherCause false one other = other
 
 -- why a shard, and the caller's codecs after it, are refused: the shard's configuration is not one of its name's, the codecs of its subchunks or of its index are refused, or one of the caller's: then the cause is the caller's
-abbrev pub RefusesNamed : ReadsCodecs → ReadsInner → RefusesInner → ExtensionPoint → List ExtensionPoint → PluginCreateError → Type 0
-RefusesNamed reads inner refuses point points cause =
+abbrev pub RefusesNamed : ReadsCodecs → InnerChains → ExtensionPoint → List ExtensionPoint → PluginCreateError → Type 0
+RefusesNamed reads inner point points cause =
     MatchOption (shard_points_in (configuration_members point.configuration)) (cause ≡ plugin.MetadataInvalid)
-    (λ given. RefusesShard inner refuses (RefusesChain reads) given cause ⊎ ((chain : Chain) × (shard_of inner (allowed_chain reads) given ≡ Some chain) × (codecs_in reads points ≡ None)))
+    (λ given. RefusesShard inner.reads inner.refuses (RefusesChain reads) given cause ⊎ ((chain : Chain) × (shard_of inner.reads (allowed_chain reads) given ≡ Some chain) × (codecs_in reads points ≡ None)))
 
 -- why extension points are refused as a shard and the caller's codecs after it: there are none, the first is refused by its name, or the shard or what stands after it is refused
 abbrev pub RefusesFirst : ReadsCodecs → ReadsInner → RefusesInner → List ExtensionPoint → PluginCreateError → Type 0
 RefusesFirst reads inner refuses [] cause = cause ≡ plugin.MetadataInvalid
-RefusesFirst reads inner refuses (point ∷ points) cause = EitherCause (names_shard point.name) (RefusesNamed reads inner refuses point points cause) (cause ≡ cause_of (names_array_codec point.name))
+RefusesFirst reads inner refuses (point ∷ points) cause = EitherCause (names_shard point.name) (RefusesNamed reads (inner_chains inner refuses) point points cause) (cause ≡ cause_of (names_array_codec point.name))
 
 -- why extension points are refused as a chain in which a shard stands: what follows the codecs between arrays is
 abbrev pub RefusesSharded : ReadsCodecs → ReadsInner → RefusesInner → List ExtensionPoint → PluginCreateError → Type 0

@@ -7,8 +7,7 @@ use Rattle.zarr_codecs_meaning.specs.Chains.Chain.{sharded}
 use Rattle.zarr_codecs_meaning.specs.Places.{parts_of, index_shape}
 use Rattle.zarr_codecs_meaning.specs.Fits.{fits, is_lossless}
 use Rattle.zarr_codecs_meaning.specs.Encoding.{Piece, pieces_of, stored_pieces, index_size, shard_of, encoded}
-use Rattle.zarr_codecs_meaning.specs.Decoding.{decoded}
-use Rattle.zarr_codecs_meaning.specs.Standing.{Slices, IsEncoding, StandsBy, Tight}
+use Rattle.zarr_codecs_meaning.specs.Standing.{Slices, IsEncoding, StandsBy, Tight, index_layout}
 use Rattle.zarr_codecs_meaning.specs.Laws.{IsLawfulChain, AreCells}
 use Rattle.zarr_codecs_meaning.proofs.Shards.{SlicesStand}
 use Rattle.zarr_codecs_meaning.proofs.Fitting.{fitted}
@@ -40,7 +39,7 @@ compacted_stands slices subchunk inner index location elements shape value made 
     let words = zero_filled uint64 in
     let size = index_size index pairs_shape in
     let slice = SliceStandsBy slices inner elements in
-    let found = shard_read (decoded index words pairs_shape) slice location size elements.fill (pieces_of elements.fill cells (parts_of shape subchunk)) value h in
+    let found = shard_read (index_layout index location pairs_shape) slice elements.fill (pieces_of elements.fill cells (parts_of shape subchunk)) value h in
     let written : shard_of (encoded index words pairs_shape) location size found.0 ≡ Some made = sym (ap (option_and_then (shard_of (encoded index words pairs_shape) location size)) found.1) ∙ is in
     stored_stands subchunk inner index location elements shape made cells slice found.0 lawful.1 (laws_of index lawful.1) (fitted subchunk inner index location elements shape fit) (and_parts (is_lossless inner elements.type) (is_lossless index uint64) lossless).1 found.2 written
 
@@ -51,5 +50,5 @@ compacted_encoded subchunk inner index location elements shape value cells h =
     let words = zero_filled uint64 in
     let size = index_size index pairs_shape in
     let pieces = pieces_of elements.fill cells (parts_of shape subchunk) in
-    let found = shard_read (decoded index words pairs_shape) (IsEncoding inner elements) location size elements.fill pieces value h in
+    let found = shard_read (index_layout index location pairs_shape) (IsEncoding inner elements) elements.fill pieces value h in
     ap (option_and_then (shard_of (encoded index words pairs_shape) location size)) (found.1 ∙ sym (are_stored (encoded inner elements) elements.fill pieces found.0 found.2))

@@ -1,14 +1,14 @@
 -- The slices of a shard that stands, read by its pairs.
 use Rattle.std.proofs.Common.{◌≡◌, ℕ, ◌+◌, ◌-◌, ◌≤◌, List, [], ◌∷◌, ◌++◌, length, take, drop, ap, ◌∙◌, sym, refl, arith, inl, inr, Option, Some, None, Bool, ◌&&◌, option_and_then, option_map, if◌then◌else◌, length-append}
-use Rattle.std.specs.Prelude.{nat_le}
 use Rattle.std.proofs.lemmas.Bool.{le-leb}
 use Rattle.std.proofs.Math.Seq.{take-append_seam, drop-append_seam}
-use Rattle.zarr_codecs_meaning.specs.Types.{Cell}
+use Rattle.std.specs.Prelude.{nat_le}
+use Rattle.zarr_codecs_meaning.specs.Types.{Cell, uint64, zero_filled}
 use Rattle.zarr_codecs_meaning.specs.Chains.{Location}
 use Rattle.zarr_codecs_meaning.specs.Chains.Location.{at_start, at_end}
 use Rattle.zarr_codecs_meaning.specs.Encoding.{Pair, Piece, base_of, joined}
-use Rattle.zarr_codecs_meaning.specs.Decoding.{pairs_in}
-use Rattle.zarr_codecs_meaning.specs.Standing.{HasSlice, PieceStands, SliceStands, PiecesStand, ShardStands}
+use Rattle.zarr_codecs_meaning.specs.Decoding.{pairs_in, decoded}
+use Rattle.zarr_codecs_meaning.specs.Standing.{HasSlice, PieceStands, SliceStands, PiecesStand, ShardStands, data_part, layout_size, layout_base, IndexLayout, Standing}
 use Rattle.zarr_codecs_meaning.proofs.Shards.{SlicesStand, is_present}
 use Rattle.zarr_codecs_meaning.proofs.KeptShards.{pairs_found}
 use Rattle.zarr_sharding_changes.specs.Compaction.{data_in, slice_in, stored_at, slices_of}
@@ -31,7 +31,7 @@ slice_read base «data» pair slice h =
     ∙ (ap (λ (t : Bool). if t then found else None) (le-leb (pair.0 + pair.1) (base + length «data») last) ∙ ap Some read)
 
 -- what is stored of a piece whose pair stands
-piece_read : (inner : List ℕ → List ℕ → List Cell → Type 0) (fill : Cell) (base : ℕ) («data» : List ℕ) (piece : Piece) (pair : Pair) → PieceStands inner fill base «data» piece pair
+piece_read : (inner : List ℕ → List ℕ → List Cell → Type 0) (fill : Cell) (base : ℕ) («data» : List ℕ) (piece : Piece) (pair : Pair) → PieceStands inner fill (data_part base «data») piece pair
     → (stored : Option (List ℕ)) × (stored_at base «data» pair ≡ Some stored) × SliceStands inner fill piece stored
 piece_read inner fill base «data» piece pair (inl h) = (None, ap (stored_at base «data») h.1, h.0)
 piece_read inner fill base «data» piece pair (inr h) =
@@ -41,7 +41,7 @@ piece_read inner fill base «data» piece pair (inr h) =
     (Some slice, read, (h.0, h.1.2))
 
 -- what is stored of pieces whose pairs stand
-slices_read : (inner : List ℕ → List ℕ → List Cell → Type 0) (fill : Cell) (base : ℕ) («data» : List ℕ) (pieces : List Piece) (pairs : List Pair) → PiecesStand inner fill base «data» pieces pairs
+slices_read : (inner : List ℕ → List ℕ → List Cell → Type 0) (fill : Cell) (base : ℕ) («data» : List ℕ) (pieces : List Piece) (pairs : List Pair) → PiecesStand inner fill (data_part base «data») pieces pairs
     → (stored : List (Option (List ℕ))) × (slices_of base «data» pairs ≡ Some stored) × SlicesStand inner fill pieces stored
 slices_read inner fill base «data» [] [] h = ([], refl, tt)
 slices_read inner fill base «data» [] (pair ∷ pairs) h = elim h [ ]
@@ -63,13 +63,16 @@ data_read at_end size index «data» value long is =
     ap (λ n. take n value) kept ∙ (ap (take (length «data»)) is ∙ take-append_seam «data» index)
 
 -- the slices of what stands are there, and stand for the pieces
-pub shard_read : (index : List ℕ → Option (List Cell)) (inner : List ℕ → List ℕ → List Cell → Type 0) (location : Location) (size : ℕ) (fill : Cell) (pieces : List Piece) (value : List ℕ) → ShardStands index inner location size fill pieces value
-    → (stored : List (Option (List ℕ))) × (option_and_then (slices_of (base_of location size) (data_in location size value)) (pairs_in index location size value) ≡ Some stored) × SlicesStand inner fill pieces stored
-shard_read index inner location size fill pieces value h =
+pub shard_read : (layout : IndexLayout) (inner : Standing) (fill : Cell) (pieces : List Piece) (value : List ℕ) → ShardStands layout inner fill pieces value
+    → (stored : List (Option (List ℕ))) × (option_and_then (slices_of (layout_base layout) (data_in layout.location (layout_size layout) value)) (pairs_in (decoded layout.chain (zero_filled uint64) layout.shape) layout.location (layout_size layout) value) ≡ Some stored) × SlicesStand inner fill pieces stored
+shard_read layout inner fill pieces value h =
+    let index = decoded layout.chain (zero_filled uint64) layout.shape in
+    let location = layout.location in
+    let size = layout_size layout in
     let laid = h.2 in
     let base = base_of location size in
     let all = slices_read inner fill base h.1 pieces h.0 h.3 in
     let read : option_and_then (slices_of base (data_in location size value)) (pairs_in index location size value) ≡ Some all.0 =
-    ap (option_and_then (slices_of base (data_in location size value))) (pairs_found index inner location size fill pieces value h)
+    ap (option_and_then (slices_of base (data_in location size value))) (pairs_found layout inner fill pieces value h)
     ∙ (ap (λ («data» : List ℕ). slices_of base «data» h.0) (data_read location size laid.index_bytes h.1 value laid.long laid.is) ∙ all.1) in
     (all.0, read, all.2)

@@ -3,7 +3,7 @@ use Rattle.std.specs.Prelude.{ℕ, ◌+◌, ◌<◌, List, [], ◌∷◌, ◌++�
 use Rattle.zarr_codecs_meaning.specs.Types.{Cell, Elements}
 use Rattle.zarr_codecs_meaning.specs.Chains.{Chain}
 use Rattle.zarr_codecs_meaning.specs.Encoding.{Pair, Piece, slice_bytes, pair_at}
-use Rattle.zarr_codecs_meaning.specs.Standing.{SliceStands, Slices, IsEncoding, StandsBy}
+use Rattle.zarr_codecs_meaning.specs.Standing.{SliceStands, Slices, Standing, IsEncoding, StandsBy}
 use Rattle.zarr_codecs_meaning.specs.Standing.Slices.{standing_slices, encoded_slices}
 
 -- the number of a subchunk, and the slice that it is encoded as, or None where it became all fill
@@ -30,11 +30,11 @@ pieces_after wanted [] pieces = pieces
 pieces_after wanted (change ∷ changes) pieces = pieces_after wanted changes (slice_set pieces change.0 (get_or wanted change.0 no_piece))
 
 -- a slice of a shard is to stand for its subchunk's cells, or it is to be what encoding writes
-abbrev pub SliceStandsBy : Slices → Chain → Elements → List ℕ → List ℕ → List Cell → Type 0
+abbrev pub SliceStandsBy : Slices → Chain → Elements → Standing
 SliceStandsBy slices inner elements = elim slices [ standing_slices ↦ StandsBy standing_slices inner elements | encoded_slices ↦ IsEncoding inner elements ]
 
 -- each change is of a subchunk that is there, and its slice stands for what is wanted
-abbrev pub ChangesStand : (List ℕ → List ℕ → List Cell → Type 0) → Cell → List Piece → List Change → Type 0
+abbrev pub ChangesStand : Standing → Cell → List Piece → List Change → Type 0
 ChangesStand inner fill wanted [] = Unit {0}
 ChangesStand inner fill wanted (change ∷ changes) =
     (change.0 < length wanted) × SliceStands inner fill (get_or wanted change.0 no_piece) change.1 × ChangesStand inner fill wanted changes

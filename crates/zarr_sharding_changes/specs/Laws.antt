@@ -7,7 +7,7 @@ use Rattle.zarr_codecs_meaning.specs.Chains.Chain.{sharded}
 use Rattle.zarr_codecs_meaning.specs.Places.{gather, grid_of, box_of, part_of}
 use Rattle.zarr_codecs_meaning.specs.Fits.{fits, can_cut, is_lossless, is_plain, keeps_indices}
 use Rattle.zarr_codecs_meaning.specs.Encoding.{Pair, Piece, absent_pair, encoded}
-use Rattle.zarr_codecs_meaning.specs.Standing.{Slices, PiecesStand, StandsBy, Tight}
+use Rattle.zarr_codecs_meaning.specs.Standing.{Slices, PiecesStand, StandsBy, Tight, data_part}
 use Rattle.zarr_codecs_meaning.specs.Laws.{IsLawfulChain, AreCells}
 use Rattle.zarr_sharding_changes.specs.Changes.{Change, appended, pairs_after, pieces_after, SliceStandsBy, ChangesStand}
 use Rattle.zarr_sharding_changes.specs.Regions.{IsInside, whole, overlaid}
@@ -20,8 +20,8 @@ use Rattle.zarr_sharding_changes.specs.HeldShards.{HeldShard, held_after}
 abbrev pub ChangesWritten : Type 0
 ChangesWritten = (slices : Slices) (inner : Chain) (elements : Elements) (base : ℕ) («data» : List ℕ) (pieces wanted : List Piece) (pairs : List Pair) (changes : List Change)
     → base + length («data» ++ appended changes) < 2 ^ 64 - 1
-    → PiecesStand (SliceStandsBy slices inner elements) elements.fill base «data» pieces pairs → ChangesStand (SliceStandsBy slices inner elements) elements.fill wanted changes
-    → PiecesStand (SliceStandsBy slices inner elements) elements.fill base («data» ++ appended changes) (pieces_after wanted changes pieces) (pairs_after (base + length «data») changes pairs)
+    → PiecesStand (SliceStandsBy slices inner elements) elements.fill (data_part base «data») pieces pairs → ChangesStand (SliceStandsBy slices inner elements) elements.fill wanted changes
+    → PiecesStand (SliceStandsBy slices inner elements) elements.fill (data_part base («data» ++ appended changes)) (pieces_after wanted changes pieces) (pairs_after (base + length «data») changes pairs)
 
 -- after a box of cells was put over an array that it lies in, the array has those cells at its places
 abbrev pub RegionWritten : Type 0

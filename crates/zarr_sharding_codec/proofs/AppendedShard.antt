@@ -1,8 +1,8 @@
 -- What a write in part leaves of a shard: the subchunks that the write meets changed, and their slices were appended.
 use Rattle.std.proofs.Common.{◌≡◌, ◌∙◌, inl, inr, ℕ, zero, suc, ◌+◌, ◌<◌, ◌^◌, List, [], ◌∷◌, ◌++◌, length, get_or, ap, sym, subst, arith, Option, Some, None, option_map, Bool, true, false, MatchOption}
+use Rattle.std.proofs.lemmas.Bool.{eq-eqb, eqb-true}
 use Rattle.std.specs.Prelude.{nat_lt}
 use Rattle.std.specs.List.{list_all}
-use Rattle.std.proofs.lemmas.Bool.{eq-eqb, eqb-true}
 use Rattle.zarr_grids_boxes.specs.Boxes.{product}
 use Rattle.zarr_codecs_meaning.specs.Chains.{Chain, Location, sharded}
 use Rattle.zarr_codecs_meaning.specs.Encoding.{Pair, Piece, base_of, index_size, piece_of}
@@ -10,6 +10,7 @@ use Rattle.zarr_codecs_meaning.specs.Fits.{can_cut, is_lossless}
 use Rattle.zarr_codecs_meaning.specs.Payloads.{Payload}
 use Rattle.zarr_codecs_meaning.specs.Places.{index_shape, parts_of}
 use Rattle.zarr_codecs_meaning.specs.Types.{Cell, Elements, is_fill, uint64}
+use Rattle.zarr_codecs_meaning.specs.Standing.{index_layout}
 use Rattle.zarr_codecs_meaning.proofs.Parts.{no_part}
 use Rattle.zarr_codecs_regions.proofs.Puts.{number_below}
 use Rattle.zarr_codecs_traits.specs.Indexers.{Asked, numbers_asked}
@@ -20,7 +21,7 @@ use Rattle.zarr_sharding_changes.specs.Changes.{Change, appended, pairs_after}
 use Rattle.zarr_sharding_changes.specs.Compaction.{data_in}
 use Rattle.zarr_sharding_changes.specs.HeldShards.{HoldsShard, IsAppendedTo, held_in, held_shard}
 use Rattle.zarr_sharding_places.specs.Locating.{subchunk_of}
-use Rattle.zarr_sharding_index.specs.Held.{IsOpened}
+use Rattle.zarr_sharding_index.specs.Held.{IsOpened, held_as, index_coding}
 use Rattle.zarr_sharding_index.specs.Written.{IsChanged}
 use Rattle.zarr_sharding_index.proofs.Reopened.{data_of, opened_ends, reopened, split_after}
 use Rattle.zarr_sharding_index.proofs.Stands.{data_read}
@@ -35,20 +36,20 @@ use Rattle.zarr_sharding_codec.proofs.PartAfter.{after_part}
 -- ---- what is stored then
 
 -- what opening a shard told is what was stored
-pub held_opened : (subchunk : List ℕ) (index : Chain) (location : Location) (shape : List ℕ) (end : ℕ) (old : Option (List ℕ)) (pairs : List Pair) → IsOpened index location (index_shape shape subchunk) (length (parts_of shape subchunk)) old pairs end
+pub held_opened : (subchunk : List ℕ) (index : Chain) (location : Location) (shape : List ℕ) (end : ℕ) (old : Option (List ℕ)) (pairs : List Pair) → IsOpened (index_layout index location (index_shape shape subchunk)) (length (parts_of shape subchunk)) old pairs end
     → held_in subchunk index location shape old ≡ Some (held_shard pairs (data_of location (index_size index (index_shape shape subchunk)) old))
 held_opened subchunk index location shape end None pairs opened = ap (λ (ps : List Pair). Some (held_shard ps [])) (sym opened.0)
 held_opened subchunk index location shape end (Some value) pairs opened =
     ap (option_map (λ (ps : List Pair). held_shard ps (data_in location (index_size index (index_shape shape subchunk)) value))) opened.0
 
 module _ (subchunk : List ℕ) (index : Chain) (exact : Bool) (location : Location) (shape : List ℕ) (changes : List Change) (end : ℕ) (old : Option (List ℕ)) (pairs : List Pair)
-    (opened : IsOpened index location (index_shape shape subchunk) (length (parts_of shape subchunk)) old pairs end) where
+    (opened : IsOpened (index_layout index location (index_shape shape subchunk)) (length (parts_of shape subchunk)) old pairs end) where
   abbrev size_is : ℕ
   size_is = index_size index (index_shape shape subchunk)
 
   -- what is stored after the changes holds the pairs and the data part with them
   holds_changed : (new : Option (List ℕ)) (ended : ℕ) → is_lossless index uint64 ≡ true → length pairs ≡ length (parts_of shape subchunk) → end + length (appended changes) < 2 ^ 63
-      → IsChanged index exact location (index_shape shape subchunk) changes end (pairs_after end changes pairs) old new ended
+      → IsChanged (index_coding index exact location (index_shape shape subchunk)) changes old end (held_as new (pairs_after end changes pairs) ended)
       → HoldsShard (held_in subchunk index location shape) (held_shard (pairs_after end changes pairs) (data_of location size_is old ++ appended changes)) new
   holds_changed new ended keeps many room (inl erased) =
       subst (λ (o : Option (List ℕ)). HoldsShard (held_in subchunk index location shape) (held_shard (pairs_after end changes pairs) (data_of location size_is old ++ appended changes)) o) (sym erased.1) erased.0
@@ -59,13 +60,13 @@ module _ (subchunk : List ℕ) (index : Chain) (exact : Bool) (location : Locati
       let «data» = data_of location size_is old ++ appended changes in
       let after = split_after index exact location pairs_shape changes count end ended pairs made old new opened h in
       let anew = reopened index exact location pairs_shape changes count end ended pairs old new keeps many room opened (inr h) in
-      let found : IsOpened index location pairs_shape count (Some after.value) made ended = subst (λ (o : Option (List ℕ)). IsOpened index location pairs_shape count o made ended) after.is anew in
+      let found : IsOpened (index_layout index location pairs_shape) count (Some after.value) made ended = subst (λ (o : Option (List ℕ)). IsOpened (index_layout index location pairs_shape) count o made ended) after.is anew in
       let read : data_in location size_is after.value ≡ «data» = data_read location size_is after.split.index «data» after.value after.split.long after.split.is in
       subst (λ (o : Option (List ℕ)). HoldsShard (held_in subchunk index location shape) (held_shard made «data») o) (sym after.is)
       (h.some, ap (option_map (λ (ps : List Pair). held_shard ps (data_in location size_is after.value))) found.0 ∙ ap (λ (bytes : List ℕ). Some (held_shard made bytes)) read)
 
   pub appended_to : (new : Option (List ℕ)) (ended : ℕ) → is_lossless index uint64 ≡ true → length pairs ≡ length (parts_of shape subchunk) → end + length (appended changes) < 2 ^ 63
-      → IsChanged index exact location (index_shape shape subchunk) changes end (pairs_after end changes pairs) old new ended → IsAppendedTo (held_in subchunk index location shape) (base_of location (index_size index (index_shape shape subchunk))) changes old new
+      → IsChanged (index_coding index exact location (index_shape shape subchunk)) changes old end (held_as new (pairs_after end changes pairs) ended) → IsAppendedTo (held_in subchunk index location shape) (base_of location (index_size index (index_shape shape subchunk))) changes old new
   appended_to new ended keeps many room written =
       let «data» = data_of location size_is old in
       let ends = opened_ends index location (index_shape shape subchunk) (length (parts_of shape subchunk)) end old pairs opened in

@@ -5,7 +5,7 @@ use Rattle.zarr_codecs_meaning.specs.Chains.{Chain}
 use Rattle.zarr_codecs_meaning.specs.Chains.Chain.{bytes, packbits, vlen, optional, after_array_codec, then_bytes, sharded}
 use Rattle.zarr_codecs_meaning.specs.Places.{position_of, encoded_shape, source_places, parts_of, index_shape}
 use Rattle.zarr_codecs_meaning.specs.Encoding.{index_size}
-use Rattle.zarr_codecs_meaning.specs.Decoding.{element_at, decoded, cell_at, cell_of_part, opens, pairs_in}
+use Rattle.zarr_codecs_meaning.specs.Decoding.{element_at, decoded, cell_at, cell_of_part, opens, pairs_in, cell_of_pair}
 
 none_when : {X : Type 0} (o : Option X) → is_some o ≡ false → o ≡ None
 none_when None h = refl
@@ -25,4 +25,4 @@ closed_cell (then_bytes chain codec) elements shape value n h =
     none_inside (opens chain elements shape) (λ inside. cell_at chain elements shape inside n) (codec.decode value) (λ inside closed. closed_cell chain elements shape inside n closed) h
 closed_cell (sharded subchunk inner index location) elements shape value n h =
     let pairs_shape = index_shape shape subchunk in
-    ap (option_and_then (cell_of_part (cell_at inner elements) elements.fill value n (parts_of shape subchunk))) (none_when (pairs_in (decoded index (zero_filled uint64) pairs_shape) location (index_size index pairs_shape) value) h)
+    ap (option_and_then (cell_of_part (cell_of_pair (cell_at inner elements) elements.fill value) n (parts_of shape subchunk))) (none_when (pairs_in (decoded index (zero_filled uint64) pairs_shape) location (index_size index pairs_shape) value) h)

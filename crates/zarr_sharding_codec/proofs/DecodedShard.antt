@@ -92,9 +92,9 @@ shard_read subchunk inner index location elements shape value pairs (Ok bytes) f
   cells = found.cells;
   fit = fit;
   lists = found.lists;
-  is = ap (option_and_then (shard_decoded inner elements shape subchunk value)) held.is ∙ found.is;
+  is = ap (option_and_then (shard_decoded (subchunks_of inner elements shape subchunk) value)) held.is ∙ found.is;
 }
-shard_read subchunk inner index location elements shape value pairs (Err error.Damage) fit held found = (fit, ap (option_and_then (shard_decoded inner elements shape subchunk value)) held.is ∙ found)
+shard_read subchunk inner index location elements shape value pairs (Err error.Damage) fit held found = (fit, ap (option_and_then (shard_decoded (subchunks_of inner elements shape subchunk) value)) held.is ∙ found)
 shard_read subchunk inner index location elements shape value pairs (Err error.Size) fit held found = found
 shard_read subchunk inner index location elements shape value pairs (Err error.Memory) fit held found = tt
 shard_read subchunk inner index location elements shape value pairs (Err error.Fit) fit held found = elim found [ ]
@@ -111,7 +111,7 @@ shard_read subchunk inner index location elements shape value pairs (Err error.C
 
 pub shard_unread : (subchunk : List ℕ) (inner index : Chain) (location : Location) (elements : Elements) (shape value : List ℕ) (e : CodecError) → fits (sharded subchunk inner index location) elements.type shape ≡ true
     → DecodesIndex index location (index_shape shape subchunk) value (Err e) → Decodes (coded (sharded subchunk inner index location) elements shape) value (Err e)
-shard_unread subchunk inner index location elements shape value error.Damage fit found = (fit, ap (option_and_then (shard_decoded inner elements shape subchunk value)) found)
+shard_unread subchunk inner index location elements shape value error.Damage fit found = (fit, ap (option_and_then (shard_decoded (subchunks_of inner elements shape subchunk) value)) found)
 shard_unread subchunk inner index location elements shape value error.Memory fit found = tt
 shard_unread subchunk inner index location elements shape value error.Size fit found = elim found [ ]
 shard_unread subchunk inner index location elements shape value error.Fit fit found = elim found [ ]

@@ -3,11 +3,11 @@ use Rattle.std.proofs.Common.{◌≡◌, ◌∙◌, ℕ, ◌+◌, ◌^◌, ◌<�
 use Rattle.std.specs.Prelude.{MatchBool, MatchOption}
 use Rattle.zarr_codecs_meaning.specs.Chains.{Chain, Location, sharded}
 use Rattle.zarr_codecs_meaning.specs.Chains.Location.{at_start, at_end}
-use Rattle.zarr_codecs_meaning.specs.Decoding.{decoded, is_absent, slice_at}
+use Rattle.zarr_codecs_meaning.specs.Decoding.{is_absent, slice_at}
 use Rattle.zarr_codecs_meaning.specs.Encoding.{Pair, base_of, index_size, joined, joined_slices, pairs_from, piece_of, pieces_of}
 use Rattle.zarr_codecs_meaning.specs.Places.{Part, index_shape, parts_of}
-use Rattle.zarr_codecs_meaning.specs.Standing.{PieceStands, PiecesStand, ShardStands}
-use Rattle.zarr_codecs_meaning.specs.Types.{Cell, absent, uint64, zero_filled}
+use Rattle.zarr_codecs_meaning.specs.Standing.{PieceStands, PiecesStand, ShardStands, data_part, index_layout}
+use Rattle.zarr_codecs_meaning.specs.Types.{Cell, absent}
 use Rattle.zarr_codecs_meaning.proofs.Fitting.{length-joined}
 use Rattle.zarr_codecs_meaning.proofs.KeptShards.{pairs_found}
 use Rattle.zarr_codecs_meaning.proofs.Making.{row_apart}
@@ -29,7 +29,7 @@ unless_absent false fact h = h
 
 -- the slice of a pair that stands for a subchunk is in the value
 gapless_at : (inner : Chain) (fill : Cell) (cells : List Cell) (location : Location) (base : ℕ) (index «data» value : List ℕ) (part : Part) (pair : Pair) → value ≡ joined location index «data» → base ≡ base_of location (length index)
-    → PieceStands (NoneGaps inner) fill base «data» (piece_of fill cells part) pair → MatchBool (is_absent pair) (Unit {0}) (MatchOption (slice_at value pair) ⊥ (IsGapless inner part.shape))
+    → PieceStands (NoneGaps inner) fill (data_part base «data») (piece_of fill cells part) pair → MatchBool (is_absent pair) (Unit {0}) (MatchOption (slice_at value pair) ⊥ (IsGapless inner part.shape))
 gapless_at inner fill cells location base index «data» value part pair is begins (inl gone) =
     subst (λ (p : Pair). MatchBool (is_absent p) (Unit {0}) (MatchOption (slice_at value p) ⊥ (IsGapless inner part.shape))) (sym gone.1) tt
 gapless_at inner fill cells location base index «data» value part pair is begins (inr there) =
@@ -37,7 +37,7 @@ gapless_at inner fill cells location base index «data» value part pair is begi
     (subst (λ (o : Option (List ℕ)). MatchOption o ⊥ (IsGapless inner part.shape)) (sym (slice_found location base index «data» value pair there.1.0 is begins there.1.1)) there.1.2)
 
 are_gapless : (inner : Chain) (fill : Cell) (cells : List Cell) (location : Location) (base : ℕ) (index «data» value : List ℕ) (parts : List Part) (pairs : List Pair) → value ≡ joined location index «data» → base ≡ base_of location (length index)
-    → PiecesStand (NoneGaps inner) fill base «data» (pieces_of fill cells parts) pairs → AreGapless (IsGapless inner) value parts pairs
+    → PiecesStand (NoneGaps inner) fill (data_part base «data») (pieces_of fill cells parts) pairs → AreGapless (IsGapless inner) value parts pairs
 are_gapless inner fill cells location base index «data» value [] pairs is begins h = tt
 are_gapless inner fill cells location base index «data» value (part ∷ parts) [] is begins h = tt
 are_gapless inner fill cells location base index «data» value (part ∷ parts) (pair ∷ pairs) is begins h =
@@ -60,8 +60,8 @@ assembled_gapless subchunk inner index location exact shape fill cells stored va
     let long : length value ≡ length assembled.index_bytes + length slices = ap (λ (l : List ℕ). length l) assembled.is ∙ length-joined location assembled.index_bytes slices in
     let less = base_small location size in
     let low : base + length slices < 2 ^ 64 - 1 = omega (arith, long, less, small, short) in
-    let read = decoded index (zero_filled uint64) pairs_shape in
-    let stands : ShardStands read IsItself location size absent (map piece_for stored) value = (
+    let layout = index_layout index location pairs_shape in
+    let stands : ShardStands layout IsItself absent (map piece_for stored) value = (
       pairs_from base stored,
       slices,
       record { index_bytes = assembled.index_bytes; long = written.sized; read = written.reads_back keeps; is = assembled.is },
@@ -71,7 +71,7 @@ assembled_gapless subchunk inner index location exact shape fill cells stored va
       laid_gains_nothing subchunk index location shape value stored stands (long ∙ ap (λ n. n + length slices) written.sized),
       (
         pairs_from base stored,
-        pairs_found read IsItself location size absent (map piece_for stored) value stands,
+        pairs_found layout IsItself absent (map piece_for stored) value stands,
         row_apart base stored,
         are_gapless inner fill cells location base assembled.index_bytes slices value (parts_of shape subchunk) (pairs_from base stored) assembled.is (ap (base_of location) (sym written.sized)) laid,
       ),

@@ -9,6 +9,7 @@ use Rattle.zarr_codecs_meaning.specs.Laws.{IsLawfulChain}
 use Rattle.zarr_codecs_meaning.specs.Payloads.{Payload}
 use Rattle.zarr_codecs_meaning.specs.Places.{index_shape, parts_of}
 use Rattle.zarr_codecs_meaning.specs.Types.{Elements, is_value}
+use Rattle.zarr_codecs_meaning.specs.Standing.{index_layout}
 use Rattle.zarr_codecs_meaning.proofs.Parts.{index_product}
 use Rattle.zarr_codecs_traits.specs.Indexers.{Asked, numbers_asked}
 use Rattle.zarr_codecs_traits.specs.Arrays.{coded, update_of}
@@ -35,13 +36,13 @@ pub record IsRead (subchunk : List ℕ) (inner index : Chain) (location : Locati
   pub tested : IsTestedPart (coded (sharded subchunk inner index location) elements shape) asked payload size numbers
   pub shape_is : pairs_shape ≡ index_shape shape subchunk
   pub given_is : given ≡ numbers
-  pub opened : IsOpened index location pairs_shape (product pairs_shape / 2) old pairs end
+  pub opened : IsOpened (index_layout index location pairs_shape) (product pairs_shape / 2) old pairs end
   pub many : product pairs_shape ≡ 2 * length pairs
 
 module _ (subchunk : List ℕ) (inner index : Chain) (location : Location) (exact : Bool) (elements : Elements) (shape : List ℕ) (asked : Asked) (payload : Payload) (size : ℕ) (numbers pairs_shape given : List ℕ) (old later : Option (List ℕ)) (pairs : List Pair) (end : ℕ)
     (h : IsRead subchunk inner index location elements shape asked payload size numbers pairs_shape given old pairs end) (same : old ≡ later) where
-  read_opened : IsOpened index location (index_shape shape subchunk) (product (index_shape shape subchunk) / 2) old pairs end
-  read_opened = subst (λ (s : List ℕ). IsOpened index location s (product s / 2) old pairs end) h.shape_is h.opened
+  read_opened : IsOpened (index_layout index location (index_shape shape subchunk)) (product (index_shape shape subchunk) / 2) old pairs end
+  read_opened = subst (λ (s : List ℕ). IsOpened (index_layout index location s) (product s / 2) old pairs end) h.shape_is h.opened
 
   pub read_count : length pairs ≡ length (parts_of shape subchunk)
   read_count =
@@ -89,7 +90,7 @@ module _ (subchunk : List ℕ) (inner index : Chain) (location : Location) (exac
   not_written changes result changed why =
       let ready = ready_read changes changed in
       part_not_written Bool subchunk inner index location exact elements shape asked payload size numbers old pairs h.tested (ready_opened subchunk inner index location elements shape asked payload size numbers old pairs end h.tested read_count read_opened) h.tested.below end changes result
-      (subst (λ n. IsOpened index location (index_shape shape subchunk) n old pairs end) (half_index shape subchunk) read_opened) ready.changed (subst (λ (s : List ℕ). ChangesUnwritten index s (pairs_after end changes pairs) result) h.shape_is why)
+      (subst (λ n. IsOpened (index_layout index location (index_shape shape subchunk)) n old pairs end) (half_index shape subchunk) read_opened) ready.changed (subst (λ (s : List ℕ). ChangesUnwritten index s (pairs_after end changes pairs) result) h.shape_is why)
 
   -- how many bytes the value has, if there is one
   read_total : (value : List ℕ) → old ≡ Some value → shard_length location size end ≡ length value

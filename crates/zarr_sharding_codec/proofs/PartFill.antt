@@ -1,15 +1,15 @@
 -- Arrays that are all fill, and their subchunks.
 use Rattle.std.proofs.Common.{◌≡◌, ◌∙◌, ℕ, zero, suc, List, [], ◌∷◌, length, get_or, replicate, ap, sym, refl, arith, inl, inr, true}
-use Rattle.std.specs.List.{list_all}
 use Rattle.std.proofs.lemmas.Bool.{and_from, and_parts}
 use Rattle.std.proofs.lemmas.List.{length-map, length-replicate}
+use Rattle.std.specs.List.{list_all}
 use Rattle.zarr_grids_boxes.specs.Boxes.{product}
 use Rattle.zarr_codecs_arrays.proofs.Copies.{fill_decides}
 use Rattle.zarr_codecs_meaning.specs.Decoding.{is_absent}
 use Rattle.zarr_codecs_meaning.specs.Encoding.{Pair, Piece, absent_pair, piece_of, pieces_of}
 use Rattle.zarr_codecs_meaning.specs.Fits.{can_cut}
 use Rattle.zarr_codecs_meaning.specs.Places.{Part, gather, parts_of}
-use Rattle.zarr_codecs_meaning.specs.Standing.{PiecesStand}
+use Rattle.zarr_codecs_meaning.specs.Standing.{PiecesStand, data_part}
 use Rattle.zarr_codecs_meaning.specs.Types.{Cell, is_fill}
 use Rattle.zarr_codecs_meaning.proofs.Lists.{each_passes}
 use Rattle.zarr_codecs_meaning.proofs.Positions.{each_at}
@@ -60,7 +60,7 @@ whole_fill fill shape subchunk cells cuts long all =
     ap (is_fill fill) same ∙ replicate_fill fill (product shape)
 
 -- where all subchunks are fill, each pair is absent
-pub all_absent : (inner : List ℕ → List ℕ → List Cell → Type 0) (fill : Cell) (base : ℕ) («data» : List ℕ) (pieces : List Piece) (pairs : List Pair) → PiecesStand inner fill base «data» pieces pairs → list_all (λ (piece : Piece). is_fill fill piece.1) pieces ≡ true → are_absent pairs ≡ true
+pub all_absent : (inner : List ℕ → List ℕ → List Cell → Type 0) (fill : Cell) (base : ℕ) («data» : List ℕ) (pieces : List Piece) (pairs : List Pair) → PiecesStand inner fill (data_part base «data») pieces pairs → list_all (λ (piece : Piece). is_fill fill piece.1) pieces ≡ true → are_absent pairs ≡ true
 all_absent inner fill base «data» [] [] stand filled = refl
 all_absent inner fill base «data» [] (p ∷ ps) stand filled = elim stand [ ]
 all_absent inner fill base «data» (x ∷ xs) [] stand filled = elim stand [ ]
@@ -70,7 +70,7 @@ all_absent inner fill base «data» (x ∷ xs) (p ∷ ps) stand filled =
     and_from (is_absent p) (list_all is_absent ps) first (all_absent inner fill base «data» xs ps stand.1 both.1)
 
 -- where each subchunk is fill, absent pairs stand for them
-pub filled_stand : (inner : List ℕ → List ℕ → List Cell → Type 0) (fill : Cell) (base : ℕ) (cells : List Cell) (parts : List Part) → is_fill fill cells ≡ true → PiecesStand inner fill base [] (pieces_of fill cells parts) (replicate (length parts) absent_pair)
+pub filled_stand : (inner : List ℕ → List ℕ → List Cell → Type 0) (fill : Cell) (base : ℕ) (cells : List Cell) (parts : List Part) → is_fill fill cells ≡ true → PiecesStand inner fill (data_part base []) (pieces_of fill cells parts) (replicate (length parts) absent_pair)
 filled_stand inner fill base cells [] filled = tt
 filled_stand inner fill base cells (part ∷ parts) filled = (inl (piece_fill fill cells part.places filled, refl), filled_stand inner fill base cells parts filled)
 

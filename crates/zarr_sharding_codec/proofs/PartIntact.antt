@@ -1,8 +1,8 @@
 -- A write in part meets no subchunk that isn't decoded, or is refused.
 use Rattle.std.proofs.Common.{◌≡◌, ◌∙◌, inl, inr, ℕ, zero, suc, ◌<◌, List, [], ◌∷◌, length, get_or, replicate, ap, sym, refl, subst, arith, Bool, true, false, ◌||◌, if◌then◌else◌, Option, Some, None, option_and_then}
+use Rattle.std.proofs.lemmas.Bool.{lt-ltb, ltb-true, or_left, or_right}
 use Rattle.std.specs.Prelude.{MatchOption, nat_lt}
 use Rattle.std.specs.List.{list_all}
-use Rattle.std.proofs.lemmas.Bool.{lt-ltb, ltb-true, or_left, or_right}
 use Rattle.zarr_grids_boxes.specs.Boxes.{product}
 use Rattle.zarr_codecs_meaning.specs.Chains.{Chain, Location, sharded}
 use Rattle.zarr_codecs_meaning.specs.Decoding.{decoded, is_absent, pairs_in, slice_at}
@@ -10,6 +10,7 @@ use Rattle.zarr_codecs_meaning.specs.Encoding.{Pair, absent_pair, index_size}
 use Rattle.zarr_codecs_meaning.specs.Fits.{can_cut}
 use Rattle.zarr_codecs_meaning.specs.Places.{Part, index_shape, parts_of, position_of}
 use Rattle.zarr_codecs_meaning.specs.Types.{Cell, Elements, uint64, zero_filled}
+use Rattle.zarr_codecs_meaning.specs.Standing.{index_layout}
 use Rattle.zarr_codecs_meaning.proofs.Lists.{some_same}
 use Rattle.zarr_codecs_meaning.proofs.Parts.{no_part}
 use Rattle.zarr_codecs_meaning.proofs.PartsOnce.{number_in}
@@ -88,7 +89,7 @@ each_met subchunk inner index location exact elements shape numbers cells value 
 
 -- what is written in part was read where the places lie
 pub part_intact : (subchunk : List ℕ) (inner index : Chain) (location : Location) (exact : Bool) (elements : Elements) (shape numbers : List ℕ) (cells : List Cell) (count end : ℕ) (old : Option (List ℕ)) (pairs : List Pair) (changes : List Change)
-    → can_cut shape subchunk ≡ true → AreChanged (stored_in inner exact elements old pairs) (put_at shape subchunk numbers cells) changes → IsOpened index location (index_shape shape subchunk) count old pairs end
+    → can_cut shape subchunk ≡ true → AreChanged (stored_in inner exact elements old pairs) (put_at shape subchunk numbers cells) changes → IsOpened (index_layout index location (index_shape shape subchunk)) count old pairs end
     → MatchOption old (Unit {0}) (λ value. ¬ MeetsLost (sharded subchunk inner index location) elements shape value numbers)
 part_intact subchunk inner index location exact elements shape numbers cells count end None pairs changes cuts changed opened = tt
 part_intact subchunk inner index location exact elements shape numbers cells count end (Some value) pairs changes cuts changed opened =

@@ -1,7 +1,7 @@
 -- Each place is read as before or as the new cell, also where another one can't be.
 use Rattle.std.proofs.Common.{◌≡◌, ◌∙◌, inl, inr, ℕ, zero, suc, ◌+◌, ◌-◌, ◌<◌, ◌^◌, List, [], ◌∷◌, ◌++◌, length, map, get_or, replicate, take, drop, ap, sym, refl, subst, arith, Bool, true, false, ◌==◌, Option, Some, None, option_and_then, unwrap_or, if◌then◌else◌, append_assoc, length-append}
-use Rattle.std.specs.List.{list_all}
 use Rattle.std.proofs.lemmas.Bool.{and_from, and_parts}
+use Rattle.std.specs.List.{list_all}
 use Rattle.zarr_grids_boxes.specs.Boxes.{product}
 use Rattle.zarr_codecs_meaning.specs.Chains.{Chain, Location, sharded}
 use Rattle.zarr_codecs_meaning.specs.Decoding.{cell_at, decoded, is_absent, slice_at}
@@ -9,7 +9,7 @@ use Rattle.zarr_codecs_meaning.specs.Encoding.{Pair, absent_pair, base_of, index
 use Rattle.zarr_codecs_meaning.specs.Fits.{can_cut, is_lossless}
 use Rattle.zarr_codecs_meaning.specs.Laws.{AreCells}
 use Rattle.zarr_codecs_meaning.specs.Places.{index_shape, parts_of}
-use Rattle.zarr_codecs_meaning.specs.Standing.{HasSlice}
+use Rattle.zarr_codecs_meaning.specs.Standing.{HasSlice, index_layout}
 use Rattle.zarr_codecs_meaning.specs.Types.{Cell, Elements, is_fill, is_value, uint64}
 use Rattle.zarr_codecs_meaning.proofs.Fitting.{fitted}
 use Rattle.zarr_codecs_meaning.proofs.Meaning.{stands_decoded}
@@ -123,7 +123,7 @@ module _ (subchunk : List ℕ) (inner index : Chain) (location : Location) (exac
       let lies = lies_at base h.end h.pairs k (opened_lies index location (index_shape shape subchunk) (length (parts_of shape subchunk)) h.end old h.pairs h.opened) low in
       let has = pair_has_slice base h.end kept_data p (opened_ends index location (index_shape shape subchunk) (length (parts_of shape subchunk)) h.end old h.pairs h.opened) low_end lies there in
       (slice, has, by_stored old h.opened has there) where
-        by_stored : (o : Option (List ℕ)) → IsOpened index location (index_shape shape subchunk) (length (parts_of shape subchunk)) o h.pairs h.end
+        by_stored : (o : Option (List ℕ)) → IsOpened (index_layout index location (index_shape shape subchunk)) (length (parts_of shape subchunk)) o h.pairs h.end
             → HasSlice base (data_of location (index_size index (index_shape shape subchunk)) o) (get_or h.pairs k absent_pair) (take (get_or h.pairs k absent_pair).1 (drop ((get_or h.pairs k absent_pair).0 - base) kept_data))
             → is_absent (get_or h.pairs k absent_pair) ≡ false → slice_at (unwrap_or o []) (get_or h.pairs k absent_pair) ≡ Some (take (get_or h.pairs k absent_pair).1 (drop ((get_or h.pairs k absent_pair).0 - base) kept_data))
         by_stored None opened has there =

@@ -9,12 +9,13 @@ use Rattle.zarr_codecs_meaning.specs.Encoding.{Pair, index_size}
 use Rattle.zarr_codecs_meaning.specs.Payloads.{Payload}
 use Rattle.zarr_codecs_meaning.specs.Places.{index_shape, parts_of}
 use Rattle.zarr_codecs_meaning.specs.Types.{Elements}
+use Rattle.zarr_codecs_meaning.specs.Standing.{index_layout}
 use Rattle.zarr_codecs_traits.specs.Indexers.{Asked, numbers_asked}
 use Rattle.zarr_codecs_traits.specs.Arrays.{Coded, Update, coded, update_of}
 use Rattle.zarr_codecs_traits.specs.PartWriting.{AreNewSlices, IsPlaced, LacksRoom, PassesLength, cells_after, write_of}
 use Rattle.zarr_codecs_traits.specs.ShardWrites.{Appends, LeavesParts}
 use Rattle.zarr_sharding_changes.specs.Changes.{Change, appended, pairs_after}
-use Rattle.zarr_sharding_index.specs.Held.{IsOpened, shard_length, index_coding}
+use Rattle.zarr_sharding_index.specs.Held.{IsOpened, shard_length, index_coding, held_as}
 use Rattle.zarr_sharding_index.specs.Written.{IsChanged}
 use Rattle.zarr_sharding_index.proofs.Reopened.{opened_length}
 use Rattle.zarr_sharding_codec.specs.Appending.{AppendsChanges, AppendsPart, shard_write}
@@ -29,7 +30,7 @@ total_more : (location : Location) (size end more : ℕ) → shard_length locati
 total_more at_start size end more = omega arith
 total_more at_end size end more = omega arith
 
-opened_total : (index : Chain) (location : Location) (shape : List ℕ) (count end : ℕ) (old : Option (List ℕ)) (pairs : List Pair) → IsOpened index location shape count old pairs end → option_map_or length old (index_size index shape) ≡ shard_length location (index_size index shape) end
+opened_total : (index : Chain) (location : Location) (shape : List ℕ) (count end : ℕ) (old : Option (List ℕ)) (pairs : List Pair) → IsOpened (index_layout index location shape) count old pairs end → option_map_or length old (index_size index shape) ≡ shard_length location (index_size index shape) end
 opened_total index at_start shape count end None pairs opened = sym opened.1
 opened_total index at_end shape count end None pairs opened = let is = opened.1 in omega (arith, is)
 opened_total index location shape count end (Some value) pairs opened = opened_length index location shape count end value pairs opened
@@ -63,9 +64,9 @@ module _ (subchunk : List ℕ) (inner index : Chain) (location : Location) (exac
   was_placed = opened_placed subchunk inner index location shape (product (index_shape shape subchunk) / 2) end old pairs h.opened
 
   -- the subchunks that the write meets changed, and no others
-  leaves_parts : (one : Bool) (new : Option (List ℕ)) (ended : ℕ) → end + length (appended changes) < 2 ^ 63 → IsChanged index one location (index_shape shape subchunk) changes end (pairs_after end changes pairs) old new ended → LeavesParts array update new
+  leaves_parts : (one : Bool) (new : Option (List ℕ)) (ended : ℕ) → end + length (appended changes) < 2 ^ 63 → IsChanged (index_coding index one location (index_shape shape subchunk)) changes old end (held_as new (pairs_after end changes pairs) ended) → LeavesParts array update new
   leaves_parts one new ended room written =
-      let opened = subst (λ n. IsOpened index location (index_shape shape subchunk) n old pairs end) (half_index shape subchunk) h.opened in
+      let opened = subst (λ n. IsOpened (index_layout index location (index_shape shape subchunk)) n old pairs end) (half_index shape subchunk) h.opened in
       record {
         placed = was_placed;
         parts = inl (refused_tested array.chain elements shape asked payload size numbers old (λ after. Appends array.chain elements shape (write_of array update after) new) h.tested

@@ -7,6 +7,7 @@ use Rattle.zarr_codecs_meaning.specs.Decoding.{is_absent}
 use Rattle.zarr_codecs_meaning.specs.Encoding.{Pair, base_of, index_size, joined_slices}
 use Rattle.zarr_codecs_meaning.specs.Places.{index_shape}
 use Rattle.zarr_codecs_meaning.specs.Types.{Elements}
+use Rattle.zarr_codecs_meaning.specs.Standing.{index_layout}
 use Rattle.zarr_codecs_traits.specs.PartWriting.{IsPlaced, StopsPart}
 use Rattle.zarr_sharding_changes.specs.Compaction.{compacted, data_in, slices_in, slices_of}
 use Rattle.zarr_sharding_changes.specs.Compactions.{Compaction, by_length, damaged, nothing_to_gain, too_long, unless_refused}
@@ -56,7 +57,7 @@ not_damaged false true (Some value) is = cc
 not_damaged false false made is = cc
 
 -- what was opened has each present slice in its data part
-pub opened_placed : (subchunk : List ℕ) (inner index : Chain) (location : Location) (shape : List ℕ) (count end : ℕ) (old : Option (List ℕ)) (pairs : List Pair) → IsOpened index location (index_shape shape subchunk) count old pairs end
+pub opened_placed : (subchunk : List ℕ) (inner index : Chain) (location : Location) (shape : List ℕ) (count end : ℕ) (old : Option (List ℕ)) (pairs : List Pair) → IsOpened (index_layout index location (index_shape shape subchunk)) count old pairs end
     → IsPlaced (sharded subchunk inner index location) shape old
 opened_placed subchunk inner index location shape count end None pairs opened = tt
 opened_placed subchunk inner index location shape count end (Some value) pairs opened = λ partly is.

@@ -1,9 +1,9 @@
 -- The cells of what is stored, each read by itself, seen from the subchunks of a shard.
 use Rattle.std.proofs.Common.{◌≡◌, ◌∙◌, ℕ, zero, suc, ◌<◌, List, [], ◌∷◌, length, map, get_or, replicate, ap, sym, refl, arith, Bool, true, false, Option, Some, None, option_and_then, unwrap_or, if◌then◌else◌}
-use Rattle.std.specs.Prelude.{nat_lt}
 use Rattle.std.proofs.lemmas.Bool.{and_from, lt-ltb}
 use Rattle.std.proofs.lemmas.List.{ext_get_or, get_or-map, get_or-replicate, length-map}
 use Rattle.std.proofs.lemmas.List.FromFn.{get_or-map-range_with_len, length-map-range_with_len}
+use Rattle.std.specs.Prelude.{nat_lt}
 use Rattle.zarr_grids_boxes.specs.Boxes.{product}
 use Rattle.zarr_codecs_meaning.specs.Chains.{Chain, Location, sharded}
 use Rattle.zarr_codecs_meaning.specs.Chunks.{chunk_part}
@@ -12,6 +12,7 @@ use Rattle.zarr_codecs_meaning.specs.Encoding.{Pair, absent_pair}
 use Rattle.zarr_codecs_meaning.specs.Fits.{can_cut, fits}
 use Rattle.zarr_codecs_meaning.specs.Places.{gather, index_shape, parts_of}
 use Rattle.zarr_codecs_meaning.specs.Types.{Cell, Elements}
+use Rattle.zarr_codecs_meaning.specs.Standing.{index_layout}
 use Rattle.zarr_codecs_meaning.proofs.Lists.{bind_some, if_some, some_same}
 use Rattle.zarr_codecs_meaning.proofs.Parts.{index_product, no_part}
 use Rattle.zarr_codecs_meaning.proofs.PartReading.{part_read}
@@ -72,7 +73,7 @@ pub record IsShardOpened (subchunk : List ℕ) (inner index : Chain) (location :
   pub many : length pairs ≡ length (parts_of shape subchunk)
   pub count : ℕ
   pub end : ℕ
-  pub opened : IsOpened index location (index_shape shape subchunk) count stored pairs end
+  pub opened : IsOpened (index_layout index location (index_shape shape subchunk)) count stored pairs end
 
 -- how many places a subchunk has
 pub places_size : (shape subchunk : List ℕ) (k : ℕ) → can_cut shape subchunk ≡ true → k < length (parts_of shape subchunk) → length (places_at shape subchunk k) ≡ product (part_shape shape subchunk k)

@@ -1,8 +1,8 @@
 -- What is stored after new cells were put stands for the updated array.
 use Rattle.std.proofs.Common.{◌≡◌, ◌∙◌, inl, inr, ℕ, ◌+◌, ◌<◌, ◌^◌, List, [], length, map, ap, sym, refl, subst, arith, Bool, true, Option, Some, None, IsTrue, MatchOption}
+use Rattle.std.proofs.lemmas.Bool.{and_parts}
 use Rattle.std.specs.Prelude.{nat_lt}
 use Rattle.std.specs.List.{list_all}
-use Rattle.std.proofs.lemmas.Bool.{and_parts}
 use Rattle.zarr_grids_boxes.specs.Boxes.{product}
 use Rattle.zarr_codecs_meaning.specs.Chains.{Chain, Location, sharded}
 use Rattle.zarr_codecs_meaning.specs.Chunks.{chunk_decoded}
@@ -10,7 +10,7 @@ use Rattle.zarr_codecs_meaning.specs.Encoding.{Pair, Piece, base_of, index_size,
 use Rattle.zarr_codecs_meaning.specs.Fits.{can_cut, fits, is_lossless}
 use Rattle.zarr_codecs_meaning.specs.Laws.{AreCells, IsLawfulChain}
 use Rattle.zarr_codecs_meaning.specs.Places.{gather, index_shape, parts_of}
-use Rattle.zarr_codecs_meaning.specs.Standing.{ChunkStands, PiecesStand, Slices, StandsBy}
+use Rattle.zarr_codecs_meaning.specs.Standing.{ChunkStands, PiecesStand, Slices, StandsBy, data_part, index_layout}
 use Rattle.zarr_codecs_meaning.specs.Standing.Slices.{standing_slices, encoded_slices}
 use Rattle.zarr_codecs_meaning.specs.Types.{Cell, Elements, is_fill, is_value, uint64}
 use Rattle.zarr_codecs_meaning.proofs.Fitting.{fitted}
@@ -18,7 +18,7 @@ use Rattle.zarr_codecs_regions.proofs.Shown.{put_cells, shown_cells, standing_de
 use Rattle.zarr_codecs_traits.specs.Indexers.{put}
 use Rattle.zarr_codecs_traits.specs.PartWriting.{ChunkTight, cells_shown, only_cell}
 use Rattle.zarr_sharding_changes.specs.Changes.{Change, SliceStandsBy, appended, pairs_after}
-use Rattle.zarr_sharding_index.specs.Held.{HoldsPieces, IsOpened, are_absent}
+use Rattle.zarr_sharding_index.specs.Held.{HoldsPieces, IsOpened, are_absent, held_as, index_coding}
 use Rattle.zarr_sharding_index.specs.Written.{IsChanged}
 use Rattle.zarr_sharding_index.proofs.Stands.{changed_holds, nothing_left, opened_holds}
 use Rattle.zarr_sharding_codec.specs.PartWriting.{AreChanged, put_at, stored_in}
@@ -41,10 +41,10 @@ pub record IsAppended (subchunk : List ℕ) (inner index : Chain) (location : Lo
   pub ended : ℕ
   pub changes : List Change
   pub count : length pairs ≡ length (parts_of shape subchunk)
-  pub opened : IsOpened index location (index_shape shape subchunk) (length (parts_of shape subchunk)) old pairs end
+  pub opened : IsOpened (index_layout index location (index_shape shape subchunk)) (length (parts_of shape subchunk)) old pairs end
   pub changed : AreChanged (stored_in inner exact elements old pairs) (put_at shape subchunk numbers cells) changes
   pub room : end + length (appended changes) < 2 ^ 63
-  pub written : IsChanged index one location (index_shape shape subchunk) changes end (pairs_after end changes pairs) old new ended
+  pub written : IsChanged (index_coding index one location (index_shape shape subchunk)) changes old end (held_as new (pairs_after end changes pairs) ended)
 
 -- what is stored for cells, by its slices
 abbrev pub ChunkBy : Slices → Chain → Elements → List ℕ → Option (List ℕ) → List Cell → Type 0
@@ -86,10 +86,10 @@ module _ (subchunk : List ℕ) (inner index : Chain) (location : Location) (exac
 
   -- what is known of a shard that stands
   holds_before : (slices : Slices) (before : List Cell) → ChunkBy slices (sharded subchunk inner index location) elements shape old before
-      → HoldsPieces (SliceStandsBy slices inner elements) elements.fill index location (index_shape shape subchunk) (pieces_of elements.fill before (parts_of shape subchunk)) old h.pairs h.end
+      → HoldsPieces (SliceStandsBy slices inner elements) elements.fill (index_layout index location (index_shape shape subchunk)) (pieces_of elements.fill before (parts_of shape subchunk)) (held_as old h.pairs h.end)
   holds_before slices before stands = by_stored old h.opened stands where
-    by_stored : (o : Option (List ℕ)) → IsOpened index location (index_shape shape subchunk) (length (parts_of shape subchunk)) o h.pairs h.end → ChunkBy slices (sharded subchunk inner index location) elements shape o before
-        → HoldsPieces (SliceStandsBy slices inner elements) elements.fill index location (index_shape shape subchunk) (pieces_of elements.fill before (parts_of shape subchunk)) o h.pairs h.end
+    by_stored : (o : Option (List ℕ)) → IsOpened (index_layout index location (index_shape shape subchunk)) (length (parts_of shape subchunk)) o h.pairs h.end → ChunkBy slices (sharded subchunk inner index location) elements shape o before
+        → HoldsPieces (SliceStandsBy slices inner elements) elements.fill (index_layout index location (index_shape shape subchunk)) (pieces_of elements.fill before (parts_of shape subchunk)) (held_as o h.pairs h.end)
     by_stored None opened stands =
         let base = base_of location (index_size index (index_shape shape subchunk)) in
         let ends = opened.1 in
@@ -97,7 +97,7 @@ module _ (subchunk : List ℕ) (inner index : Chain) (location : Location) (exac
           «data» = [];
           held = (refl, ap are_absent opened.0 ∙ none_present (length (parts_of shape subchunk)));
           ends = omega (arith, ends);
-          stand = subst (λ (ps : List Pair). PiecesStand (SliceStandsBy slices inner elements) elements.fill base [] (pieces_of elements.fill before (parts_of shape subchunk)) ps) (sym opened.0)
+          stand = subst (λ (ps : List Pair). PiecesStand (SliceStandsBy slices inner elements) elements.fill (data_part base []) (pieces_of elements.fill before (parts_of shape subchunk)) ps) (sym opened.0)
               (filled_stand (SliceStandsBy slices inner elements) elements.fill base before (parts_of shape subchunk) stands);
         }
     by_stored (Some value) opened stands =
@@ -105,7 +105,7 @@ module _ (subchunk : List ℕ) (inner index : Chain) (location : Location) (exac
 
   -- what is known of it after the changes
   holds_after : (slices : Slices) (before : List Cell) → CanBe slices exact → is_lossless (sharded subchunk inner index location) elements.type ≡ true → taken_cells ≡ before → length before ≡ product shape → ChunkBy slices (sharded subchunk inner index location) elements shape old before
-      → HoldsPieces (SliceStandsBy slices inner elements) elements.fill index location (index_shape shape subchunk) (pieces_of elements.fill (put numbers cells before) (parts_of shape subchunk)) new (pairs_after h.end h.changes h.pairs) h.ended
+      → HoldsPieces (SliceStandsBy slices inner elements) elements.fill (index_layout index location (index_shape shape subchunk)) (pieces_of elements.fill (put numbers cells before) (parts_of shape subchunk)) (held_as new (pairs_after h.end h.changes h.pairs) h.ended)
   holds_after slices before can lossless same long stands =
       let both = and_parts (is_lossless inner elements.type) (is_lossless index uint64) lossless in
       let stored = stored_in inner exact elements old h.pairs in
@@ -114,7 +114,7 @@ module _ (subchunk : List ℕ) (inner index : Chain) (location : Location) (exac
       let pieces = pieces_of elements.fill before (parts_of shape subchunk) in
       let wanted = pieces_of elements.fill (put numbers cells before) (parts_of shape subchunk) in
       let relation = SliceStandsBy slices inner elements in
-      subst (λ (xs : List Piece). HoldsPieces relation elements.fill index location (index_shape shape subchunk) xs new (pairs_after h.end h.changes h.pairs) h.ended) (pieces_are stored given before h.changes is)
+      subst (λ (xs : List Piece). HoldsPieces relation elements.fill (index_layout index location (index_shape shape subchunk)) xs (held_as new (pairs_after h.end h.changes h.pairs) h.ended)) (pieces_are stored given before h.changes is)
       (changed_holds relation elements.fill index one location (index_shape shape subchunk) pieces wanted h.changes h.pairs h.end old new h.ended both.1 h.room (holds_before slices before stands)
       (changes_stand slices stored given before h.changes h.changes can both.0 is h.changed.are) h.written)
 
@@ -126,7 +126,7 @@ module _ (subchunk : List ℕ) (inner index : Chain) (location : Location) (exac
         after : AreCells elements shape (put numbers cells before)
         after = put_cells elements shape numbers cells before h.values are
 
-        by_stored : (o : Option (List ℕ)) → HoldsPieces (SliceStandsBy slices inner elements) elements.fill index location (index_shape shape subchunk) (pieces_of elements.fill (put numbers cells before) (parts_of shape subchunk)) o (pairs_after h.end h.changes h.pairs) h.ended
+        by_stored : (o : Option (List ℕ)) → HoldsPieces (SliceStandsBy slices inner elements) elements.fill (index_layout index location (index_shape shape subchunk)) (pieces_of elements.fill (put numbers cells before) (parts_of shape subchunk)) (held_as o (pairs_after h.end h.changes h.pairs) h.ended)
             → ChunkBy slices (sharded subchunk inner index location) elements shape o (put numbers cells before)
         by_stored None holds =
             whole_fill elements.fill shape subchunk (put numbers cells before) cuts after.whole

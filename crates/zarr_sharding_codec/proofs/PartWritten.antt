@@ -1,8 +1,8 @@
 -- A part of an array was written into its shard, or why it wasn't.
 use Rattle.std.proofs.Common.{◌≡◌, ◌⊎◌, ◌∙◌, inl, inr, ℕ, zero, suc, ◌+◌, ◌/◌, ◌<◌, ◌^◌, List, [], ◌∷◌, length, get_or, ap, sym, subst, arith, Bool, true, false, Option, Some, None, is_some, IsTrue, MatchOption, Result, Ok, Err}
+use Rattle.std.proofs.lemmas.List.{length-map}
 use Rattle.std.specs.Prelude.{nat_lt}
 use Rattle.std.specs.List.{list_all}
-use Rattle.std.proofs.lemmas.List.{length-map}
 use Rattle.zarr_grids_boxes.specs.Boxes.{product}
 use Rattle.zarr_codecs_arrays.specs.declared.error.CodecError.{CodecError}
 use Rattle.zarr_codecs_arrays.specs.declared.error.CodecError.TheVariants as error
@@ -14,6 +14,7 @@ use Rattle.zarr_codecs_meaning.specs.Payloads.{Payload}
 use Rattle.zarr_codecs_meaning.specs.Places.{Part, gather, index_shape, parts_of}
 use Rattle.zarr_codecs_meaning.specs.Refusals.{CodecRefuses, PassesIndex, PieceRefused}
 use Rattle.zarr_codecs_meaning.specs.Types.{Cell, Elements, is_fill, is_value, uint64, zero_filled}
+use Rattle.zarr_codecs_meaning.specs.Standing.{index_layout}
 use Rattle.zarr_codecs_meaning.proofs.Fitting.{fitted}
 use Rattle.zarr_codecs_meaning.proofs.Parts.{index_product, no_part}
 use Rattle.zarr_codecs_traits.specs.Indexers.{Asked, numbers_asked}
@@ -23,11 +24,11 @@ use Rattle.zarr_sharding_changes.specs.Changes.{Change, appended, pairs_after}
 use Rattle.zarr_sharding_changes.specs.HeldShards.{held_shard}
 use Rattle.zarr_sharding_places.specs.Locating.{part_shape}
 use Rattle.zarr_sharding_places.specs.Pieces.{piece_decoded}
-use Rattle.zarr_sharding_index.specs.Held.{IsOpened, are_absent}
+use Rattle.zarr_sharding_index.specs.Held.{IsOpened, are_absent, held_as, index_coding}
 use Rattle.zarr_sharding_index.specs.Written.{IsChanged}
+use Rattle.zarr_sharding_index.specs.Opened as opening
 use Rattle.zarr_sharding_index.proofs.Counts.{changed_count}
 use Rattle.zarr_sharding_index.proofs.Reopened.{data_of, opened_ends, opened_length}
-use Rattle.zarr_sharding_index.specs.Opened as opening
 use Rattle.zarr_sharding_codec.specs.Appending.{ChangesUnwritten, IsTestedPart}
 use Rattle.zarr_sharding_codec.specs.PartWriting.{AreChanged, IsLostAt, IsOf, IsRefusedAt, UpdatesSlices, put_at, stored_in}
 use Rattle.zarr_sharding_codec.proofs.NumberedParts.{part_fewer, part_fits}
@@ -43,7 +44,7 @@ use Rattle.zarr_sharding_codec.proofs.StoredLoop.{no_piece, too_large}
 use Rattle.zarr_sharding_codec.proofs.StoredParts.{refused_at}
 
 -- what was opened can be read
-opened_opens : (subchunk : List ℕ) (inner index : Chain) (location : Location) (elements : Elements) (shape : List ℕ) (count end : ℕ) (old : Option (List ℕ)) (pairs : List Pair) → IsOpened index location (index_shape shape subchunk) count old pairs end
+opened_opens : (subchunk : List ℕ) (inner index : Chain) (location : Location) (elements : Elements) (shape : List ℕ) (count end : ℕ) (old : Option (List ℕ)) (pairs : List Pair) → IsOpened (index_layout index location (index_shape shape subchunk)) count old pairs end
     → MatchOption old (Unit {0}) (λ value. opens (sharded subchunk inner index location) elements shape value ≡ true)
 opened_opens subchunk inner index location elements shape count end None pairs opened = tt
 opened_opens subchunk inner index location elements shape count end (Some value) pairs opened = ap is_some opened.0
@@ -155,7 +156,7 @@ module _ (A : Type 0) (subchunk : List ℕ) (inner index : Chain) (location : Lo
 
   -- ---- what isn't written
 
-  pub part_not_written : (end : ℕ) (changes : List Change) (result : Result Bool CodecError) → IsOpened index location (index_shape shape subchunk) (length (parts_of shape subchunk)) old pairs end
+  pub part_not_written : (end : ℕ) (changes : List Change) (result : Result Bool CodecError) → IsOpened (index_layout index location (index_shape shape subchunk)) (length (parts_of shape subchunk)) old pairs end
       → AreChanged (stored_in inner exact elements old pairs) (put_at shape subchunk numbers tested.cells) changes → ChangesUnwritten index (index_shape shape subchunk) (pairs_after end changes pairs) result
       → NotEncodedInto (coded (sharded subchunk inner index location) elements shape) (update_of asked payload old) result
   part_not_written end changes (Ok written) held changed why = tt
@@ -188,7 +189,7 @@ pub record IsReady (subchunk : List ℕ) (inner index : Chain) (location : Locat
   pub fill : is_value elements.type elements.fill ≡ true
   pub tested : IsTestedPart (coded (sharded subchunk inner index location) elements shape) asked payload size numbers
   pub count : length pairs ≡ length (parts_of shape subchunk)
-  pub opened : IsOpened index location (index_shape shape subchunk) (product (index_shape shape subchunk) / 2) old pairs end
+  pub opened : IsOpened (index_layout index location (index_shape shape subchunk)) (product (index_shape shape subchunk) / 2) old pairs end
   pub changed : AreChanged (stored_in inner exact elements old pairs) (put_at shape subchunk numbers tested.cells) changes
 
 -- as many pairs as subchunks
@@ -196,7 +197,7 @@ pub half_index : (shape subchunk : List ℕ) → product (index_shape shape subc
 half_index shape subchunk = let two = index_product shape subchunk in omega (arith, two)
 
 pub ready_appended : (subchunk : List ℕ) (inner index : Chain) (location : Location) (exact one : Bool) (elements : Elements) (shape : List ℕ) (asked : Asked) (payload : Payload) (size : ℕ) (numbers : List ℕ) (old new : Option (List ℕ)) (pairs : List Pair) (end ended : ℕ) (changes : List Change)
-    → (h : IsReady subchunk inner index location exact elements shape asked payload size numbers old pairs end changes) → end + length (appended changes) < 2 ^ 63 → IsChanged index one location (index_shape shape subchunk) changes end (pairs_after end changes pairs) old new ended
+    → (h : IsReady subchunk inner index location exact elements shape asked payload size numbers old pairs end changes) → end + length (appended changes) < 2 ^ 63 → IsChanged (index_coding index one location (index_shape shape subchunk)) changes old end (held_as new (pairs_after end changes pairs) ended)
     → IsAppended subchunk inner index location exact one elements shape numbers h.tested.cells old new
 ready_appended subchunk inner index location exact one elements shape asked payload size numbers old new pairs end ended changes h room written = record {
   lawful = h.lawful;
@@ -210,7 +211,7 @@ ready_appended subchunk inner index location exact one elements shape asked payl
   ended = ended;
   changes = changes;
   count = h.count;
-  opened = subst (λ n. IsOpened index location (index_shape shape subchunk) n old pairs end) (half_index shape subchunk) h.opened;
+  opened = subst (λ n. IsOpened (index_layout index location (index_shape shape subchunk)) n old pairs end) (half_index shape subchunk) h.opened;
   changed = h.changed;
   room = room;
   written = written;
@@ -218,7 +219,7 @@ ready_appended subchunk inner index location exact one elements shape asked payl
 
 -- what is known of a shard that was opened
 pub ready_opened : (subchunk : List ℕ) (inner index : Chain) (location : Location) (elements : Elements) (shape : List ℕ) (asked : Asked) (payload : Payload) (size : ℕ) (numbers : List ℕ) (old : Option (List ℕ)) (pairs : List Pair) (end : ℕ)
-    → IsTestedPart (coded (sharded subchunk inner index location) elements shape) asked payload size numbers → length pairs ≡ length (parts_of shape subchunk) → IsOpened index location (index_shape shape subchunk) (product (index_shape shape subchunk) / 2) old pairs end
+    → IsTestedPart (coded (sharded subchunk inner index location) elements shape) asked payload size numbers → length pairs ≡ length (parts_of shape subchunk) → IsOpened (index_layout index location (index_shape shape subchunk)) (product (index_shape shape subchunk) / 2) old pairs end
     → IsShardOpened subchunk inner index location elements shape old pairs
 ready_opened subchunk inner index location elements shape asked payload size numbers old pairs end tested count opened = record {
   cuts = (fitted subchunk inner index location elements shape tested.fit).cuts;
@@ -230,6 +231,6 @@ ready_opened subchunk inner index location elements shape asked payload size num
 }
 
 -- what is known is of what the source holds
-pub opened_of : (index : Chain) (location : Location) (shape : List ℕ) (count end : ℕ) (old : Option (List ℕ)) (pairs : List Pair) → IsOpened index location shape count old pairs end → IsOf location (index_size index shape) old pairs end
+pub opened_of : (index : Chain) (location : Location) (shape : List ℕ) (count end : ℕ) (old : Option (List ℕ)) (pairs : List Pair) → IsOpened (index_layout index location shape) count old pairs end → IsOf location (index_size index shape) old pairs end
 opened_of index location shape count end None pairs opened = ap are_absent opened.0 ∙ none_present count
 opened_of index location shape count end (Some value) pairs opened = opened_length index location shape count end value pairs opened

@@ -1,10 +1,10 @@
 -- What is read of one slice, and of a part of a shard.
 use Rattle.std.proofs.Common.{◌≡◌, ◌∙◌, ℕ, zero, suc, ◌<◌, List, [], ◌∷◌, length, map, get_or, replicate, unwrap_or, ap, sym, refl, arith, subst, Bool, true, false, Option, Some, None, option_and_then, option_map, is_some, if◌then◌else◌, Result, Ok, Err}
-use Rattle.std.specs.List.{list_all}
 use Rattle.std.proofs.lemmas.Bool.{and_parts}
+use Rattle.std.specs.List.{list_all}
 use Rattle.zarr_grids_boxes.specs.Boxes.{product}
 use Rattle.zarr_codecs_meaning.specs.Chains.{Chain, Location, sharded}
-use Rattle.zarr_codecs_meaning.specs.Decoding.{all_there, cell_at, cell_of_part, is_absent, opens, part_decoded, slice_at}
+use Rattle.zarr_codecs_meaning.specs.Decoding.{all_there, cell_at, cell_of_part, is_absent, opens, part_decoded, slice_at, cell_of_pair}
 use Rattle.zarr_codecs_meaning.specs.Chunks.{chunk_part}
 use Rattle.zarr_codecs_meaning.specs.Encoding.{Pair, absent_pair}
 use Rattle.zarr_codecs_meaning.specs.Payloads.{cells_in}
@@ -124,7 +124,7 @@ present_value (Some value) pairs total k told low there = (refl, sym told)
 pub part_is : (subchunk : List ℕ) (inner index : Chain) (location : Location) (elements : Elements) (shape value : List ℕ) (pairs : List Pair) (numbers : List ℕ) → IsIndexHeld index location (index_shape shape subchunk) value pairs
     → part_decoded (sharded subchunk inner index location) elements shape value numbers ≡ shard_cells (subchunks_of inner elements shape subchunk) value pairs numbers
 part_is subchunk inner index location elements shape value pairs numbers held =
-    let meet = λ (n : ℕ). cell_of_part (cell_at inner elements) elements.fill value n (parts_of shape subchunk) in
+    let meet = λ (n : ℕ). cell_of_part (cell_of_pair (cell_at inner elements) elements.fill value) n (parts_of shape subchunk) in
     ap (λ (o : Option (List Pair)). if is_some o then all_there (map (λ n. option_and_then (meet n) o) numbers) else None) held.is
 
 pub part_found : (subchunk : List ℕ) (inner index : Chain) (location : Location) (elements : Elements) (shape value : List ℕ) (pairs : List Pair) (numbers : List ℕ) (asked : Asked) (result : Result ArrayBytes CodecError)
@@ -149,7 +149,7 @@ pub part_unfetched : (subchunk : List ℕ) (inner index : Chain) (location : Loc
     → are_inside shape asked ≡ true → FetchesIndex index location (index_shape shape subchunk) stored (Err e) → DecodesPart (coded (sharded subchunk inner index location) elements shape) stored asked (Err e)
 part_unfetched subchunk inner index location elements shape None asked error.Damage fit inside lost = elim lost [ ]
 part_unfetched subchunk inner index location elements shape (Some value) asked error.Damage fit inside lost =
-    let meet = λ (n : ℕ). cell_of_part (cell_at inner elements) elements.fill value n (parts_of shape subchunk) in
+    let meet = λ (n : ℕ). cell_of_part (cell_of_pair (cell_at inner elements) elements.fill value) n (parts_of shape subchunk) in
     (fit, inside, ap (λ (o : Option (List Pair)). if is_some o then all_there (map (λ n. option_and_then (meet n) o) (numbers_asked shape asked)) else None) lost)
 part_unfetched subchunk inner index location elements shape stored asked error.Source fit inside lost = tt
 part_unfetched subchunk inner index location elements shape stored asked error.Memory fit inside lost = tt

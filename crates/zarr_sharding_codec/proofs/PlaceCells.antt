@@ -1,10 +1,10 @@
 -- The cell that a shard has at a place is that of the place's subchunk.
 use Rattle.std.proofs.Common.{◌≡◌, ◌∙◌, ℕ, zero, suc, ◌<◌, ◌≤◌, List, [], ◌∷◌, length, get_or, ap, sym, refl, arith, Bool, true, false, Option, Some, option_and_then, if◌then◌else◌}
-use Rattle.std.specs.Prelude.{nat_lt}
 use Rattle.std.proofs.lemmas.Bool.{le-ltb, lt-ltb, ltb-false, ltb-true}
+use Rattle.std.specs.Prelude.{nat_lt}
 use Rattle.zarr_grids_boxes.specs.Boxes.{product}
 use Rattle.zarr_codecs_meaning.specs.Chains.{Chain}
-use Rattle.zarr_codecs_meaning.specs.Decoding.{cell_at, cell_of_part, is_absent, slice_at}
+use Rattle.zarr_codecs_meaning.specs.Decoding.{cell_at, cell_of_part, is_absent, slice_at, cell_of_pair}
 use Rattle.zarr_codecs_meaning.specs.Encoding.{Pair, absent_pair}
 use Rattle.zarr_codecs_meaning.specs.Fits.{can_cut}
 use Rattle.zarr_codecs_meaning.specs.Places.{Part, parts_of, position_of}
@@ -31,7 +31,7 @@ abbrev pair_cell : (List ℕ → List ℕ → ℕ → Option Cell) → Cell → 
 pair_cell read fill value shape pair i = if is_absent pair then Some fill else option_and_then (λ slice. read shape slice i) (slice_at value pair)
 
 met_cell : (read : List ℕ → List ℕ → ℕ → Option Cell) (fill : Cell) (value : List ℕ) (n : ℕ) (parts : List Part) (pairs : List Pair) (k i : ℕ) → length pairs ≡ length parts → IsFirst parts n k i
-    → cell_of_part read fill value n parts pairs ≡ pair_cell read fill value (get_or parts k no_part).shape (get_or pairs k absent_pair) i
+    → cell_of_part (cell_of_pair read fill value) n parts pairs ≡ pair_cell read fill value (get_or parts k no_part).shape (get_or pairs k absent_pair) i
 met_cell read fill value n [] pairs k i same is = let p = is.part in absurd (omega arith)
 met_cell read fill value n (part ∷ parts) [] k i same is = absurd (omega (arith, same))
 met_cell read fill value n (part ∷ parts) (pair ∷ pairs) zero i same is =
@@ -39,12 +39,12 @@ met_cell read fill value n (part ∷ parts) (pair ∷ pairs) zero i same is =
     let here = is.here in
     let within = is.inside in
     let low : nat_lt q (length part.places) ≡ true = lt-ltb q (length part.places) (omega (arith, here, within)) in
-    ap (λ (b : Bool). elim b [ true ↦ pair_cell read fill value part.shape pair q | false ↦ cell_of_part read fill value n parts pairs ]) low ∙ ap (pair_cell read fill value part.shape pair) is.here
+    ap (λ (b : Bool). elim b [ true ↦ pair_cell read fill value part.shape pair q | false ↦ cell_of_part (cell_of_pair read fill value) n parts pairs ]) low ∙ ap (pair_cell read fill value part.shape pair) is.here
 met_cell read fill value n (part ∷ parts) (pair ∷ pairs) (suc k) i same is =
     let q = position_of n part.places in
     let below = is.part in
     let past : nat_lt q (length part.places) ≡ false = le-ltb q (length part.places) (is.before 0 (omega arith)) in
-    ap (λ (b : Bool). elim b [ true ↦ pair_cell read fill value part.shape pair q | false ↦ cell_of_part read fill value n parts pairs ]) past
+    ap (λ (b : Bool). elim b [ true ↦ pair_cell read fill value part.shape pair q | false ↦ cell_of_part (cell_of_pair read fill value) n parts pairs ]) past
     ∙ met_cell read fill value n parts pairs k i (omega (arith, same)) (record { part = omega (arith, below); here = is.here; inside = is.inside; before = λ j low. is.before (suc j) (omega (arith, low)) })
 
 at_most : (b : Bool) (m c : ℕ) → nat_lt m c ≡ b → (m < c → ⊥) → c ≤ m

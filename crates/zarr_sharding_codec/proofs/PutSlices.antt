@@ -214,7 +214,7 @@ module _ (subchunk : List ℕ) (inner index : Chain) (location : Location) (elem
             (subst (λ (ns : List ℕ). ShowsPieces inner elements value parts (set front n (pair_of p.range)) (put ns one.cells so_far.cells) count) (sym places) shown);
       }
 
-  pub put_end : (all : BoxedElements) (j : ℕ) → length slices ≤ j → (so_far : PutSoFar inner elements shape subchunk value sliced.present all j) → shard_decoded inner elements shape subchunk value pairs ≡ Some so_far.cells
+  pub put_end : (all : BoxedElements) (j : ℕ) → length slices ≤ j → (so_far : PutSoFar inner elements shape subchunk value sliced.present all j) → shard_decoded (subchunks_of inner elements shape subchunk) value pairs ≡ Some so_far.cells
   put_end all j past so_far =
       let parts = parts_of shape subchunk in
       let long : length slices ≡ length sliced.present = ap (λ (xs : List PieceSlice). length xs) sliced.are ∙ length-map sliced.present whole_slice in

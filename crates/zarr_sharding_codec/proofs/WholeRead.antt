@@ -1,13 +1,13 @@
 -- All places of an array read alone are what its value is decoded to.
 use Rattle.std.proofs.Common.{◌≡◌, ◌∙◌, ◌⊎◌, inl, inr, ℕ, zero, suc, ◌+◌, ◌-◌, ◌*◌, ◌<◌, ◌≤◌, List, [], ◌∷◌, length, map, get_or, slice_get, replicate, ap, sym, refl, arith, Option, Some, None, option_and_then, option_map, Bool, true, false, ◌&&◌, if◌then◌else◌, Result, Ok, Err}
-use Rattle.std.specs.Prelude.{nat_lt, nat_le}
-use Rattle.std.specs.List.{list_all, range_with_len}
 use Rattle.std.proofs.lemmas.Bool.{and_parts, lt-ltb}
 use Rattle.std.proofs.lemmas.List.FromFn.{fill_by_all, get_or-range_with_len, length-range_with_len}
+use Rattle.std.specs.Prelude.{nat_lt, nat_le}
+use Rattle.std.specs.List.{list_all, range_with_len}
 use Rattle.zarr_grids_boxes.specs.Boxes.{product}
 use Rattle.zarr_codecs_meaning.specs.Chains.{Chain, Location}
 use Rattle.zarr_codecs_meaning.specs.Chains.Chain.{bytes, packbits, vlen, optional, after_array_codec, then_bytes, sharded}
-use Rattle.zarr_codecs_meaning.specs.Decoding.{all_there, cell_at, cell_of_part, decoded, element_at, index_bytes, is_absent, is_whole, opens, pairs_in, pairs_of_cells, pieces_decoded, slice_at}
+use Rattle.zarr_codecs_meaning.specs.Decoding.{all_there, cell_at, cell_of_part, decoded, element_at, index_bytes, is_absent, is_whole, opens, pairs_in, pairs_of_cells, pieces_decoded, slice_at, cell_of_pair}
 use Rattle.zarr_codecs_meaning.specs.Encoding.{Pair, absent_pair, index_size}
 use Rattle.zarr_codecs_meaning.specs.Fits.{array_codec_fits, can_cut, fits}
 use Rattle.zarr_codecs_meaning.specs.Keeping.{arranged}
@@ -103,7 +103,7 @@ inside_lost false decode cell fill all count slice some law h = lost_behind slic
 
 shard_lost : (inner : Chain) (elements : Elements) (shape subchunk value : List ℕ) (ps : List Pair) → can_cut shape subchunk ≡ true → length ps ≡ length (parts_of shape subchunk)
     → ((k : ℕ) → k < length (parts_of shape subchunk) → (slice : List ℕ) → decoded inner elements (part_shape shape subchunk k) slice ≡ None → Loses (product (part_shape shape subchunk k)) (cell_at inner elements (part_shape shape subchunk k) slice))
-    → pieces_decoded (decoded inner elements) elements.fill value (parts_of shape subchunk) ps ≡ None → Loses (product shape) (λ n. cell_of_part (cell_at inner elements) elements.fill value n (parts_of shape subchunk) ps)
+    → pieces_decoded (decoded inner elements) elements.fill value (parts_of shape subchunk) ps ≡ None → Loses (product shape) (λ n. cell_of_part (cell_of_pair (cell_at inner elements) elements.fill value) n (parts_of shape subchunk) ps)
 shard_lost inner elements shape subchunk value ps cuts many law h =
     let parts = parts_of shape subchunk in
     let fill = elements.fill in
@@ -157,7 +157,7 @@ undecoded_loses (sharded subchunk inner index location) elements shape value fit
     let arrange = λ (pieces : List (List Cell)). map (arranged fill parts pieces) (place_numbers shape) in
     let pieces = λ (ps : List Pair). pieces_decoded (decoded inner elements) fill value parts ps in
     let f = fitted subchunk inner index location elements shape fit in
-    lost_behind (pairs_in (decoded index (zero_filled uint64) pairs_shape) location (index_size index pairs_shape) value) (λ ps. option_map arrange (pieces ps)) (λ ps n. cell_of_part (cell_at inner elements) fill value n parts ps) (product shape) some
+    lost_behind (pairs_in (decoded index (zero_filled uint64) pairs_shape) location (index_size index pairs_shape) value) (λ ps. option_map arrange (pieces ps)) (λ ps n. cell_of_part (cell_of_pair (cell_at inner elements) fill value) n parts ps) (product shape) some
     (λ ps is lost.
     shard_lost inner elements shape subchunk value ps f.cuts (pairs_many index location shape subchunk value ps is)
     (λ k below slice gone. undecoded_loses inner elements (part_shape shape subchunk k) slice (part_fits subchunk inner index location elements shape k fit below) (part_some shape subchunk k f.cuts below) gone) (unmapped arrange (pieces ps) lost)) h

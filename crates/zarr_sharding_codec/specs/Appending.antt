@@ -20,7 +20,7 @@ use Rattle.zarr_codecs_traits.specs.Writes.{accepted_after, most_to_patch}
 use Rattle.zarr_codecs_traits.specs.declared.byte_source.BytesPartialDecoderTraits as source
 use Rattle.zarr_codecs_traits.specs.declared.byte_target.BytesPartialEncoderTraits as target
 use Rattle.zarr_sharding_changes.specs.Changes.{Change, appended, pairs_after}
-use Rattle.zarr_sharding_index.specs.Held.{are_absent, shard_length, IndexCoding}
+use Rattle.zarr_sharding_index.specs.Held.{are_absent, shard_length, IndexCoding, held_as}
 use Rattle.zarr_sharding_index.specs.Written.{IsChanged}
 use Rattle.zarr_sharding_codec.specs.Fitting.{index_length}
 
@@ -55,7 +55,7 @@ shard_write changes end pairs stored = record { changes = changes; end = end; pa
 abbrev pub AppendsChanges : IndexCoding → ShardWrite → Option (List ℕ) → Bool → Type 0
 AppendsChanges index write new written =
     let total = write.end + length (appended write.changes) in
-    MatchBool written ((total < 2 ^ 63) × ((ended : ℕ) × IsChanged index.chain index.exact index.location index.shape write.changes write.end (pairs_after write.end write.changes write.pairs) write.stored new ended))
+    MatchBool written ((total < 2 ^ 63) × ((ended : ℕ) × IsChanged index write.changes write.stored write.end (held_as new (pairs_after write.end write.changes write.pairs) ended)))
     ((new ≡ write.stored) × (2 ^ 63 ≤ shard_length index.location (index_size index.chain index.shape) total))
 
 -- the count of accepted writing calls after a call: one more where something was written

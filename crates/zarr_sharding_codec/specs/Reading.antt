@@ -2,7 +2,7 @@
 use Rattle.std.specs.Prelude.{◌≡◌, ℕ, Bool, true, false, List, length, map, replicate, Option, None, Some, option_and_then, if◌then◌else◌, Result, Ok, Err}
 use Rattle.zarr_grids_boxes.specs.Boxes.{Region, product}
 use Rattle.zarr_codecs_meaning.specs.Chains.{Chain}
-use Rattle.zarr_codecs_meaning.specs.Decoding.{all_there, cell_at, cell_of_part, is_absent, slice_at}
+use Rattle.zarr_codecs_meaning.specs.Decoding.{all_there, cell_at, cell_of_part, is_absent, slice_at, cell_of_pair}
 use Rattle.zarr_codecs_meaning.specs.Encoding.{Pair}
 use Rattle.zarr_codecs_meaning.specs.Payloads.{cells_in, fixed}
 use Rattle.zarr_codecs_meaning.specs.Places.{parts_of}
@@ -17,10 +17,11 @@ use Rattle.zarr_codecs_traits.specs.Indexers.{numbers_of}
 use Rattle.zarr_sharding_index.specs.Present.{all_pairs}
 use Rattle.zarr_sharding_index.specs.declared.fetched_index.FetchedIndex.{FetchedIndex}
 use Rattle.zarr_sharding_index.specs.declared.index.ShardIndex.{ShardIndex}
+use Rattle.zarr_sharding_index.specs.Held.{are_absent}
 use Rattle.zarr_sharding_places.specs.Boxed.{ShowsBoxes}
 use Rattle.zarr_sharding_places.specs.Pieces.{piece_decoded, shard_decoded}
+pub use Rattle.zarr_sharding_places.specs.Pieces.{Subchunks, subchunks_of}
 use Rattle.zarr_sharding_places.specs.declared.boxed.BoxedElements.{BoxedElements}
-use Rattle.zarr_sharding_index.specs.Held.{are_absent}
 
 -- elements are these cells, if there are any
 pub record AreCells (elements : Elements) (found : Option (List Cell)) (bytes : ArrayBytes) : Type 0 where
@@ -68,20 +69,9 @@ PutsPiece elements new all (Ok made) =
     × ((before : List Cell) → ShowsBoxes elements all before → length cells ≡ product new.region.shape → ShowsBoxes elements made (put (numbers_of new.shape new.region) cells before))
 PutsPiece elements new all (Err e) = Lists elements new.piece new.found (Err e)
 
--- an array that is cut into subchunks: their chain, what the elements are, its shape and theirs
-pub record Subchunks : Type 0 where
-  pub inner : Chain
-  pub elements : Elements
-  pub shape : List ℕ
-  pub subchunk : List ℕ
-
--- the same, put together
-abbrev pub subchunks_of : Chain → Elements → List ℕ → List ℕ → Subchunks
-subchunks_of inner elements shape subchunk = record { inner = inner; elements = elements; shape = shape; subchunk = subchunk }
-
 -- the elements of the array of a shard whose index has these pairs, or why there are none
 abbrev pub DecodesPieces : Subchunks → List ℕ → List Pair → Result ArrayBytes CodecError → Type 0
-DecodesPieces array value pairs result = Lists array.elements array.shape (shard_decoded array.inner array.elements array.shape array.subchunk value pairs) result
+DecodesPieces array value pairs result = Lists array.elements array.shape (shard_decoded array value pairs) result
 
 -- the index of a shard, or why there is none, by what decoding it tells and by whether the codec suits the array
 abbrev pub DecodesIndexOf : (Result ShardIndex CodecError → Type 0) → Bool → Result ShardIndex CodecError → Type 0
@@ -112,7 +102,7 @@ slice_cells inner elements shape slice places = all_there (map (cell_at inner el
 
 -- the cell at a place of the array of a shard whose index has these pairs: of the subchunks only the place's own is met
 abbrev pub shard_cell : Subchunks → List ℕ → List Pair → ℕ → Option Cell
-shard_cell array value pairs place = cell_of_part (cell_at array.inner array.elements) array.elements.fill value place (parts_of array.shape array.subchunk) pairs
+shard_cell array value pairs place = cell_of_part (cell_of_pair (cell_at array.inner array.elements) array.elements.fill value) place (parts_of array.shape array.subchunk) pairs
 
 -- the cells at places of it, in their order
 abbrev pub shard_cells : Subchunks → List ℕ → List Pair → List ℕ → Option (List Cell)

@@ -1,7 +1,8 @@
 -- A compacted shard is as long as its index and its slices.
 use Rattle.std.proofs.Common.{◌≡◌, inl, ℕ, ◌+◌, ◌*◌, ◌-◌, ◌^◌, List, [], ◌∷◌, ◌++◌, length, map, ap, ◌∙◌, sym, refl, arith, Option, Some, None, option_map, Bool, true, false, if◌then◌else◌, ◌==◌}
-use Rattle.std.specs.Prelude.{nat_le, nat_lt}
 use Rattle.std.proofs.lemmas.Bool.{eq-eqb, eqb-true, ltb-true}
+use Rattle.std.proofs.lemmas.Bool.{and_parts}
+use Rattle.std.specs.Prelude.{nat_le, nat_lt}
 use Rattle.zarr_grids_boxes.specs.Boxes.{product}
 use Rattle.zarr_codecs_meaning.specs.Chains.{BytesRepresentation, Chain, Location, fixed_size, bounded_size, unbounded_size}
 use Rattle.zarr_codecs_meaning.specs.Decoding.{decoded, index_bytes, pairs_in, pairs_of_cells}
@@ -9,8 +10,9 @@ use Rattle.zarr_codecs_meaning.specs.Encoding.{Pair, Piece, base_of, encoded, in
 use Rattle.zarr_codecs_meaning.specs.Fits.{fits, fixed_of, has_index_size, is_lossless, is_size_as, representation_of}
 use Rattle.zarr_codecs_meaning.specs.Laws.{AreCells, IsLawfulChain}
 use Rattle.zarr_codecs_meaning.specs.Places.{index_shape}
-use Rattle.zarr_codecs_meaning.specs.Standing.{ShardStands}
+use Rattle.zarr_codecs_meaning.specs.Standing.{ShardStands, index_layout}
 use Rattle.zarr_codecs_meaning.specs.Types.{Cell, absent, of_bytes, uint64, zero_filled}
+use Rattle.zarr_codecs_meaning.specs.Places.{parts_of}
 use Rattle.zarr_codecs_meaning.proofs.Counts.{decoded_count}
 use Rattle.zarr_codecs_meaning.proofs.Fitting.{length-joined}
 use Rattle.zarr_codecs_meaning.proofs.Lists.{bind_some, if_some, map_some, some_same}
@@ -18,8 +20,6 @@ use Rattle.zarr_codecs_meaning.proofs.Meaning.{laws_of, stands_decoded}
 use Rattle.zarr_codecs_meaning.proofs.Parts.{index_product}
 use Rattle.zarr_codecs_meaning.proofs.Representations.{encoded_size}
 use Rattle.zarr_codecs_meaning.proofs.Shards.{SlicesStand, length-pair_cells, length-pairs_from, put}
-use Rattle.zarr_codecs_meaning.specs.Places.{parts_of}
-use Rattle.std.proofs.lemmas.Bool.{and_parts}
 use Rattle.zarr_sharding_changes.specs.Compaction.{compacted, data_in, slices_in, slices_of}
 use Rattle.zarr_sharding_changes.specs.Compactions.{by_length, compacted_to, damaged, nothing_to_gain, shard_compaction, too_long, unless_refused}
 use Rattle.zarr_sharding_changes.proofs.Slices.{shard_read}
@@ -78,12 +78,12 @@ are_same (Some slice ∷ stored) (Some other ∷ others) h =
 
 -- a shard whose slices stand in a row gains nothing
 pub laid_gains_nothing : (subchunk : List ℕ) (index : Chain) (location : Location) (shape value : List ℕ) (stored : List (Option (List ℕ)))
-    → ShardStands (decoded index (zero_filled uint64) (index_shape shape subchunk)) IsItself location (index_size index (index_shape shape subchunk)) absent (map piece_for stored) value
+    → ShardStands (index_layout index location (index_shape shape subchunk)) IsItself absent (map piece_for stored) value
     → length value ≡ index_size index (index_shape shape subchunk) + length (joined_slices stored) → shard_compaction subchunk index location shape value ≡ nothing_to_gain
 laid_gains_nothing subchunk index location shape value stored stands long =
     let pairs_shape = index_shape shape subchunk in
     let size = index_size index pairs_shape in
-    let read = shard_read (decoded index (zero_filled uint64) pairs_shape) IsItself location size absent (map piece_for stored) value stands in
+    let read = shard_read (index_layout index location pairs_shape) IsItself absent (map piece_for stored) value stands in
     let after = size + length (joined_slices read.0) in
     let same : length value ≡ after = long ∙ ap (λ (l : List ℕ). size + length l) (sym (are_same stored read.0 read.2)) in
     let made = compacted subchunk index location shape value in
@@ -118,7 +118,7 @@ module _ (subchunk : List ℕ) (index : Chain) (location : Location) (shape valu
 
   -- the compacted shard is laid out, each slice standing for itself
   made_stands : (stored : List (Option (List ℕ))) → slices_in subchunk index location shape value ≡ Some stored → shard_of (encoded index (zero_filled uint64) (index_shape shape subchunk)) location (index_size index (index_shape shape subchunk)) stored ≡ Some made
-      → ShardStands (decoded index (zero_filled uint64) (index_shape shape subchunk)) IsItself location (index_size index (index_shape shape subchunk)) absent (map piece_for stored) made × (length made ≡ index_size index (index_shape shape subchunk) + length (joined_slices stored))
+      → ShardStands (index_layout index location (index_shape shape subchunk)) IsItself absent (map piece_for stored) made × (length made ≡ index_size index (index_shape shape subchunk) + length (joined_slices stored))
   made_stands stored are is =
       let pairs_shape = index_shape shape subchunk in
       let words = zero_filled uint64 in

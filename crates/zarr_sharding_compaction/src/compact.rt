@@ -2,7 +2,9 @@
 ghost use Rattle.std.specs.Prelude.{◌≡◌, ◌*◌, ◌^◌, ◌<◌, length, true, IsTrue};
 ghost use Rattle.zarr_codecs_meaning.specs.Encoding.{index_size};
 ghost use Rattle.zarr_codecs_meaning.specs.Places.{index_shape};
+ghost use Rattle.zarr_codecs_meaning.specs.Standing.{index_layout};
 ghost use Rattle.zarr_grids_boxes.specs.Boxes.{product};
+ghost use Rattle.zarr_sharding_changes.specs.Refusals.{shard_layout};
 ghost use Rattle.zarr_sharding_compaction.specs.Outcomes.{CompactsShard, MakesShard};
 ghost use Rattle.zarr_sharding_index.specs.Stored.{index_fits};
 ghost use Rattle.zarr_sharding_index.specs.Views.{location_of, pairs_of};
@@ -33,8 +35,8 @@ pub fn compact_shard<X: ArrayToBytesCodecTraits>(
     requires size { layout.index_size ≡ index_size (X.meaning codecs.now)
         (index_shape layout.shape.now layout.subchunk_shape.now) }
     requires function { IsTrue (X.is_function codecs.now) }
-    ensures { CompactsShard layout.entry.subchunk_shape.now (X.meaning codecs.now)
-        (location_of layout.entry.index_location) layout.entry.shape.now value.now result }
+    ensures { CompactsShard (shard_layout layout.entry.subchunk_shape.now (X.meaning codecs.now)
+        (location_of layout.entry.index_location) layout.entry.shape.now) value.now result }
 {
     let Some((stored, data)) = split_shard(layout.index_location, layout.index_size, value) else {
         return Err(CodecError::Damage);
@@ -80,8 +82,9 @@ fn write_slices<X: ArrayToBytesCodecTraits>(
         ≡ 2 * length (pairs_of sliced.index.now) }
     requires low { sliced.base < 2 ^ 63 }
     requires function { IsTrue (X.is_function codecs.now) }
-    ensures { MakesShard (X.meaning codecs.now) (location_of layout.entry.index_location)
-        (index_shape layout.entry.shape.now layout.entry.subchunk_shape.now) sliced.entry.base
+    ensures { MakesShard (index_layout (X.meaning codecs.now)
+        (location_of layout.entry.index_location)
+        (index_shape layout.entry.shape.now layout.entry.subchunk_shape.now)) sliced.entry.base
         sliced.entry.data.now (pairs_of sliced.entry.index.now) result }
 {
     let Some((data, index)) = copy_slices(alloc, sliced)? else {

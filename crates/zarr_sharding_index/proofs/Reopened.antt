@@ -1,21 +1,21 @@
 -- What is known of a shard after changes are written is what opening it anew tells.
 use Rattle.std.proofs.Common.{◌≡◌, ◌∙◌, inl, inr, ℕ, zero, suc, ◌+◌, ◌-◌, ◌≤◌, ◌<◌, ◌^◌, List, [], ◌∷◌, ◌++◌, length, get_or, set, take, drop, replicate, ap, sym, refl, subst, arith, Option, Some, None, option_map, Bool, true, false, ◌&&◌, ◌||◌, ◌==◌, if◌then◌else◌, length-append, length-drop}
-use Rattle.std.specs.Prelude.{nat_le}
-use Rattle.std.specs.List.{list_all}
 use Rattle.std.proofs.lemmas.Bool.{and_from, and_parts, cases_Bool, eqb-true, le-leb, leb-true}
 use Rattle.std.proofs.lemmas.List.{length-take, take-append-drop}
+use Rattle.std.specs.Prelude.{nat_le}
+use Rattle.std.specs.List.{list_all}
 use Rattle.zarr_codecs_meaning.specs.Chains.{Chain, Location}
 use Rattle.zarr_codecs_meaning.specs.Chains.Location.{at_start, at_end}
 use Rattle.zarr_codecs_meaning.specs.Decoding.{decoded, index_bytes, is_absent, pairs_in, pairs_of_cells}
 use Rattle.zarr_codecs_meaning.specs.Encoding.{Pair, absent_pair, base_of, index_size, joined, pair_at, pair_cells, slice_bytes}
 use Rattle.zarr_codecs_meaning.specs.Fits.{is_lossless}
-use Rattle.zarr_codecs_meaning.specs.Standing.{HasSlice}
+use Rattle.zarr_codecs_meaning.specs.Standing.{HasSlice, index_layout}
 use Rattle.zarr_codecs_meaning.specs.Types.{uint64, zero_filled}
 use Rattle.zarr_codecs_meaning.proofs.Lists.{if_some}
 use Rattle.zarr_codecs_meaning.proofs.Shards.{AreWords, index_read, pairs_back}
 use Rattle.zarr_sharding_changes.specs.Changes.{Change, appended, pairs_after}
 use Rattle.zarr_sharding_changes.specs.Compaction.{data_in}
-use Rattle.zarr_sharding_index.specs.Held.{IsOpened, are_absent, lies_between, shard_length}
+use Rattle.zarr_sharding_index.specs.Held.{IsOpened, are_absent, lies_between, shard_length, held_as, index_coding}
 use Rattle.zarr_sharding_index.specs.Written.{IsAppended, IsChanged, with_slices}
 use Rattle.zarr_sharding_index.proofs.Counts.{changed_count}
 use Rattle.zarr_sharding_index.proofs.Ranges.{slices_first, slices_written}
@@ -42,7 +42,7 @@ split_value at_end size value fits = record {
 }
 
 -- a value that was opened
-pub opened_split : (index : Chain) (location : Location) (shape : List ℕ) (count end : ℕ) (value : List ℕ) (pairs : List Pair) → IsOpened index location shape count (Some value) pairs end → IsSplit location (index_size index shape) value (data_in location (index_size index shape) value)
+pub opened_split : (index : Chain) (location : Location) (shape : List ℕ) (count end : ℕ) (value : List ℕ) (pairs : List Pair) → IsOpened (index_layout index location shape) count (Some value) pairs end → IsSplit location (index_size index shape) value (data_in location (index_size index shape) value)
 opened_split index location shape count end value pairs opened =
     let size = index_size index shape in
     let both = if_some (nat_le size (length value)) (option_map pairs_of_cells (decoded index (zero_filled uint64) shape (index_bytes location size value))) pairs opened.0 in
@@ -53,7 +53,7 @@ split_length : (location : Location) (size : ℕ) (value «data» : List ℕ) �
 split_length at_start size value «data» split = let long = split.long in let count = ap (λ (l : List ℕ). length l) split.is ∙ length-append split.index «data» in omega (arith, long, count)
 split_length at_end size value «data» split = let long = split.long in let count = ap (λ (l : List ℕ). length l) split.is ∙ length-append «data» split.index in omega (arith, long, count)
 
-pub opened_length : (index : Chain) (location : Location) (shape : List ℕ) (count end : ℕ) (value : List ℕ) (pairs : List Pair) → IsOpened index location shape count (Some value) pairs end → length value ≡ shard_length location (index_size index shape) end
+pub opened_length : (index : Chain) (location : Location) (shape : List ℕ) (count end : ℕ) (value : List ℕ) (pairs : List Pair) → IsOpened (index_layout index location shape) count (Some value) pairs end → length value ≡ shard_length location (index_size index shape) end
 opened_length index location shape count end value pairs opened =
     split_length location (index_size index shape) value (data_in location (index_size index shape) value) (opened_split index location shape count end value pairs opened) ∙ ap (shard_length location (index_size index shape)) (sym opened.1)
 
@@ -166,18 +166,18 @@ abbrev pub data_of : Location → ℕ → Option (List ℕ) → List ℕ
 data_of location size None = []
 data_of location size (Some value) = data_in location size value
 
-pub opened_ends : (index : Chain) (location : Location) (shape : List ℕ) (count end : ℕ) (old : Option (List ℕ)) (pairs : List Pair) → IsOpened index location shape count old pairs end → end ≡ base_of location (index_size index shape) + length (data_of location (index_size index shape) old)
+pub opened_ends : (index : Chain) (location : Location) (shape : List ℕ) (count end : ℕ) (old : Option (List ℕ)) (pairs : List Pair) → IsOpened (index_layout index location shape) count old pairs end → end ≡ base_of location (index_size index shape) + length (data_of location (index_size index shape) old)
 opened_ends index location shape count end None pairs opened = let is = opened.1 in omega (arith, is)
 opened_ends index location shape count end (Some value) pairs opened = opened.1
 
-pub opened_lies : (index : Chain) (location : Location) (shape : List ℕ) (count end : ℕ) (old : Option (List ℕ)) (pairs : List Pair) → IsOpened index location shape count old pairs end → AllLie (base_of location (index_size index shape)) end pairs
+pub opened_lies : (index : Chain) (location : Location) (shape : List ℕ) (count end : ℕ) (old : Option (List ℕ)) (pairs : List Pair) → IsOpened (index_layout index location shape) count old pairs end → AllLie (base_of location (index_size index shape)) end pairs
 opened_lies index location shape count end None pairs opened =
     let base = base_of location (index_size index shape) in
     subst (λ (ps : List Pair). AllLie base end ps) (sym opened.0) (all_absent_lie base end count)
 opened_lies index location shape count end (Some value) pairs opened = opened.2
 
-pub split_after : (index : Chain) (exact : Bool) (location : Location) (shape : List ℕ) (changes : List Change) (count end ended : ℕ) (pairs made : List Pair) (old new : Option (List ℕ)) → IsOpened index location shape count old pairs end
-    → IsAppended index exact location shape changes end made old new ended → IsSplitAfter index location shape new made (data_of location (index_size index shape) old ++ appended changes) ended
+pub split_after : (index : Chain) (exact : Bool) (location : Location) (shape : List ℕ) (changes : List Change) (count end ended : ℕ) (pairs made : List Pair) (old new : Option (List ℕ)) → IsOpened (index_layout index location shape) count old pairs end
+    → IsAppended (index_coding index exact location shape) changes old end (held_as new made ended) → IsSplitAfter index location shape new made (data_of location (index_size index shape) old ++ appended changes) ended
 split_after index exact location shape changes count end ended pairs made None new opened h =
     let size = index_size index shape in
     let base = base_of location size in
@@ -232,10 +232,10 @@ absent_pairs (p ∷ ps) all =
 
 -- what was written is opened as what is known of it
 pub reopened : (index : Chain) (exact : Bool) (location : Location) (shape : List ℕ) (changes : List Change) (count end ended : ℕ) (pairs : List Pair) (old new : Option (List ℕ)) → is_lossless index uint64 ≡ true → length pairs ≡ count → end + length (appended changes) < 2 ^ 63
-    → IsOpened index location shape count old pairs end → IsChanged index exact location shape changes end (pairs_after end changes pairs) old new ended → IsOpened index location shape count new (pairs_after end changes pairs) ended
+    → IsOpened (index_layout index location shape) count old pairs end → IsChanged (index_coding index exact location shape) changes old end (held_as new (pairs_after end changes pairs) ended) → IsOpened (index_layout index location shape) count new (pairs_after end changes pairs) ended
 reopened index exact location shape changes count end ended pairs old new lossless many room opened (inl erased) =
     let made = pairs_after end changes pairs in
-    subst (λ (o : Option (List ℕ)). IsOpened index location shape count o made ended) (sym erased.1)
+    subst (λ (o : Option (List ℕ)). IsOpened (index_layout index location shape) count o made ended) (sym erased.1)
     (absent_pairs made erased.0 ∙ ap (λ n. replicate n absent_pair) (changed_count end changes pairs ∙ many), erased.2)
 reopened index exact location shape changes count end ended pairs old new lossless many room opened (inr h) =
     let size = index_size index shape in
@@ -253,5 +253,5 @@ reopened index exact location shape changes count end ended pairs old new lossle
     ap (λ (b : Bool). if b then option_map pairs_of_cells (decoded index (zero_filled uint64) shape (index_bytes location size value)) else None) (le-leb size (length value) found.0)
     ∙ (ap (λ (l : List ℕ). option_map pairs_of_cells (decoded index (zero_filled uint64) shape l)) found.1
     ∙ (ap (option_map pairs_of_cells) (after.read lossless) ∙ ap Some (pairs_back made (lying_words base ended made (omega (arith, room, ends)) all)))) in
-    subst (λ (o : Option (List ℕ)). IsOpened index location shape count o made ended) (sym after.is)
+    subst (λ (o : Option (List ℕ)). IsOpened (index_layout index location shape) count o made ended) (sym after.is)
     (read, after.ends ∙ ap (λ (l : List ℕ). base + length l) (sym (data_read location size split.index «data» value split.long split.is)), all)

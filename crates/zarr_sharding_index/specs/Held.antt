@@ -3,10 +3,10 @@ use Rattle.std.specs.Prelude.{◌≡◌, ℕ, ◌+◌, List, [], length, replica
 use Rattle.std.specs.List.{list_all}
 use Rattle.zarr_codecs_meaning.specs.Chains.{Chain, Location}
 use Rattle.zarr_codecs_meaning.specs.Chains.Location.{at_start, at_end}
-use Rattle.zarr_codecs_meaning.specs.Decoding.{decoded, is_absent}
-use Rattle.zarr_codecs_meaning.specs.Encoding.{Pair, Piece, absent_pair, base_of, index_size}
-use Rattle.zarr_codecs_meaning.specs.Standing.{IsLaidOut, PiecesStand}
-use Rattle.zarr_codecs_meaning.specs.Types.{Cell, uint64, zero_filled}
+use Rattle.zarr_codecs_meaning.specs.Decoding.{is_absent}
+use Rattle.zarr_codecs_meaning.specs.Encoding.{Pair, Piece, absent_pair}
+use Rattle.zarr_codecs_meaning.specs.Standing.{IsLaidOut, PiecesStand, data_part, layout_size, layout_base, IndexLayout, Standing}
+use Rattle.zarr_codecs_meaning.specs.Types.{Cell}
 use Rattle.zarr_sharding_changes.specs.Compaction.{data_in}
 use Rattle.zarr_sharding_index.specs.HeldIndex.{held_pairs}
 
@@ -40,23 +40,23 @@ abbrev pub lies_between : ℕ → ℕ → Pair → Bool
 lies_between base end pair = is_absent pair || (nat_le base pair.0 && nat_le (pair.0 + pair.1) end)
 
 -- what is known of a shard once it is opened: its pairs, each of which lies in the data part, and where that ends. Where there is no value, each subchunk is absent, and the data part is empty
-abbrev pub IsOpened : Chain → Location → List ℕ → ℕ → Option (List ℕ) → List Pair → ℕ → Type 0
-IsOpened index location shape count None pairs end = (pairs ≡ replicate count absent_pair) × (end ≡ base_of location (index_size index shape))
-IsOpened index location shape count (Some value) pairs end =
-    let size = index_size index shape in
-    (held_pairs index location shape value ≡ Some pairs) × (end ≡ base_of location size + length (data_in location size value)) × (list_all (lies_between (base_of location size) end) pairs ≡ true)
+abbrev pub IsOpened : IndexLayout → ℕ → Option (List ℕ) → List Pair → ℕ → Type 0
+IsOpened layout count None pairs end = (pairs ≡ replicate count absent_pair) × (end ≡ layout_base layout)
+IsOpened layout count (Some value) pairs end =
+    (held_pairs layout.chain layout.location layout.shape value ≡ Some pairs)
+    × (end ≡ layout_base layout + length (data_in layout.location (layout_size layout) value)) × (list_all (lies_between (layout_base layout) end) pairs ≡ true)
 
 -- a value is an index of pairs and a data part; where there is no value, each subchunk is absent, and the data part is empty
-abbrev pub IsHeld : Chain → Location → List ℕ → Option (List ℕ) → List Pair → List ℕ → Type 0
-IsHeld index location shape None pairs «data» = («data» ≡ []) × (are_absent pairs ≡ true)
-IsHeld index location shape (Some value) pairs «data» = IsLaidOut (decoded index (zero_filled uint64) shape) location (index_size index shape) value pairs «data»
+abbrev pub IsHeld : IndexLayout → Option (List ℕ) → List Pair → List ℕ → Type 0
+IsHeld layout None pairs «data» = («data» ≡ []) × (are_absent pairs ≡ true)
+IsHeld layout (Some value) pairs «data» = IsLaidOut layout value pairs «data»
 
 -- a shard's pairs and its data part, which ends there, stand for the pieces
-pub record HoldsPieces (inner : List ℕ → List ℕ → List Cell → Type 0) (fill : Cell) (index : Chain) (location : Location) (shape : List ℕ) (pieces : List Piece) (contents : Option (List ℕ)) (pairs : List Pair) (end : ℕ) : Type 0 where
+pub record HoldsPieces (inner : Standing) (fill : Cell) (layout : IndexLayout) (pieces : List Piece) (known : Held) : Type 0 where
   pub «data» : List ℕ
-  pub held : IsHeld index location shape contents pairs «data»
-  pub ends : end ≡ base_of location (index_size index shape) + length «data»
-  pub stand : PiecesStand inner fill (base_of location (index_size index shape)) «data» pieces pairs
+  pub held : IsHeld layout known.contents known.pairs «data»
+  pub ends : known.end ≡ layout_base layout + length «data»
+  pub stand : PiecesStand inner fill (data_part (layout_base layout) «data») pieces known.pairs
 
 -- how many bytes a shard has whose data part ends there
 abbrev pub shard_length : Location → ℕ → ℕ → ℕ

@@ -5,6 +5,7 @@ use Rattle.zarr_grids_boxes.specs.Boxes.{product}
 use Rattle.zarr_codecs_meaning.specs.Chains.{Chain, Location}
 use Rattle.zarr_codecs_meaning.specs.Chains.Location.{at_start, at_end}
 use Rattle.zarr_codecs_meaning.specs.Encoding.{Pair, absent_pair, base_of, index_size}
+use Rattle.zarr_codecs_meaning.specs.Standing.{index_layout}
 use Rattle.zarr_codecs_arrays.specs.declared.error.CodecError.{CodecError}
 use Rattle.zarr_codecs_arrays.specs.declared.error.CodecError.TheVariants as error
 use Rattle.zarr_sharding_changes.specs.Compaction.{data_in}
@@ -20,17 +21,17 @@ abbrev pub data_end : Location → ℕ → ℕ → Option ℕ
 data_end at_start size total = if nat_le size total then Some total else None
 data_end at_end size total = if nat_le size total then Some (total - size) else None
 
--- pairs and the end of the data part are those of a fetched index, or those of no value
-abbrev pub AreFetched : Location → List ℕ → ℕ → Option FetchedIndex → List Pair → ℕ → Type 0
-AreFetched location shape size None pairs end = (pairs ≡ replicate (product shape / 2) absent_pair) × (end ≡ base_of location size)
-AreFetched location shape size (Some found) pairs end =
-    (pairs ≡ all_pairs found.pairs) × (data_end location size found.total ≡ Some end) × (list_all (lies_between (base_of location size) end) pairs ≡ true)
+-- the pairs of what is known of a shard, and the end of its data part, are those of a fetched index, or those of no value
+abbrev pub AreFetched : Location → List ℕ → ℕ → Option FetchedIndex → KnownShard → Type 0
+AreFetched location shape size None made = (all_pairs made.pairs ≡ replicate (product shape / 2) absent_pair) × (made.end ≡ base_of location size)
+AreFetched location shape size (Some found) made =
+    (all_pairs made.pairs ≡ all_pairs found.pairs) × (data_end location size found.total ≡ Some made.end) × (list_all (lies_between (base_of location size) made.end) (all_pairs made.pairs) ≡ true)
 
 -- what is known of a shard by its fetched index
-pub record IsKnown (location : Location) (shape : List ℕ) (size : ℕ) (fetched : Option FetchedIndex) (pairs : List Pair) (end : ℕ) : Type 0 where
-  pub many : length pairs ≡ product shape / 2
-  pub low : end < 2 ^ 63
-  pub are : AreFetched location shape size fetched pairs end
+pub record IsKnown (location : Location) (shape : List ℕ) (size : ℕ) (fetched : Option FetchedIndex) (made : KnownShard) : Type 0 where
+  pub many : length (all_pairs made.pairs) ≡ product shape / 2
+  pub low : made.end < 2 ^ 63
+  pub are : AreFetched location shape size fetched made
 
 -- a fetched index isn't that of a shard: it is longer than the shard, has another number of pairs, or a present pair lies outside the data part
 abbrev pub Misfits : Location → List ℕ → ℕ → FetchedIndex → Type 0
@@ -40,7 +41,7 @@ Misfits location shape size found =
 
 -- what is known of a shard by its fetched index, or why nothing is
 abbrev pub Opens : Location → List ℕ → ℕ → Option FetchedIndex → Result KnownShard CodecError → Type 0
-Opens location shape size fetched (Ok made) = IsKnown location shape size fetched (all_pairs made.pairs) made.end
+Opens location shape size fetched (Ok made) = IsKnown location shape size fetched made
 Opens location shape size fetched (Err error.Damage) = MatchOption fetched ⊥ (λ (found : FetchedIndex). Misfits location shape size found)
 Opens location shape size fetched (Err error.Size) = MatchOption fetched ⊥ (λ (found : FetchedIndex). 2 ^ 63 ≤ found.total)
 Opens location shape size fetched (Err error.Memory) = Unit {0}
@@ -63,7 +64,7 @@ OpenRefused index location shape contents e = ⊥
 
 -- what is known of a shard is what a source holds, by the chain of the index, where that stands and its shape: its pairs, each of which lies in the data part, and where that ends; where there is no value, each subchunk is absent, and the data part is empty
 abbrev pub IsOpenedAs : Chain → Location → List ℕ → Option (List ℕ) → KnownShard → Type 0
-IsOpenedAs index location shape contents shard = IsOpened index location shape (product shape / 2) contents (pairs_in shard) (end_of shard)
+IsOpenedAs index location shape contents shard = IsOpened (index_layout index location shape) (product shape / 2) contents (pairs_in shard) (end_of shard)
 
 -- how the index of a shard is laid out: it stands there, and has this shape and so many bytes
 pub record IsLaid (place : Location) (edges : List ℕ) (count : ℕ) (shard : KnownShard) : Type 0 where

@@ -18,9 +18,10 @@ impl KnownShard {
     ghost use Rattle.std.specs.Prelude.{◌≡◌, ◌+◌, ◌<◌, ◌^◌, length, false, true, OnOk, IsTrue};
     ghost use Rattle.std.specs.List.{list_all};
     ghost use Rattle.zarr_codecs_meaning.specs.Encoding.{index_size};
+    ghost use Rattle.zarr_codecs_meaning.specs.Standing.{index_layout};
     ghost use Rattle.zarr_sharding_index.specs.Stored.{index_fits};
     ghost use Rattle.zarr_sharding_index.specs.Calls.{CalledToWrite, KnownAfter, change_given};
-    ghost use Rattle.zarr_sharding_index.specs.Held.{are_absent};
+    ghost use Rattle.zarr_sharding_index.specs.Held.{are_absent, held_as};
     ghost use Rattle.zarr_sharding_index.specs.Known.{end_of, pairs_in, known_location, known_shape, known_length, held_by, known_index};
     ghost use Rattle.zarr_sharding_index.specs.SliceChanges.{changes_of, is_below};
     ghost use Rattle.zarr_sharding_index.specs.Written.{ChangesRefused, IsAppended, ChangesHeld, RefusesChanges};
@@ -117,12 +118,12 @@ impl KnownShard {
         requires room { end_of self.now + length given.slice.items < 2 ^ 63 }
         requires some { are_absent (pairs_in self.now) ≡ false }
         ensures ok { IsTrue (E.is_honest source.old) → OnOk result
-            (IsAppended (X.meaning codecs.now) (X.is_function codecs.now)
-            (known_location self.now) (known_shape self.now) (change_given given)
-            (end_of self.now) (pairs_in self.now) (E.contents source.old) (E.contents source.new)
-            (end_of self.now + length given.slice.items)) }
+            (IsAppended (known_index (X.meaning codecs.now) (X.is_function codecs.now) self.now)
+            (change_given given) (E.contents source.old) (end_of self.now)
+            (held_as (E.contents source.new) (pairs_in self.now)
+            (end_of self.now + length given.slice.items))) }
         ensures cause { IsTrue (E.is_honest source.old) → ChangesRefused
-            (X.meaning codecs.now) (known_location self.now) (known_shape self.now)
+            (index_layout (X.meaning codecs.now) (known_location self.now) (known_shape self.now))
             (change_given given) (end_of self.now) (pairs_in self.now) result }
         ensures call { CalledToWrite E.BytesPartialEncoderTraits.own E.BytesPartialDecoderTraits
             source.old source.new result }

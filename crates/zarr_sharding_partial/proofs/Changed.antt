@@ -6,36 +6,37 @@ use Rattle.zarr_codecs_meaning.specs.Encoding.{Pair}
 use Rattle.zarr_codecs_meaning.specs.Fits.{is_lossless}
 use Rattle.zarr_codecs_meaning.specs.Places.{index_shape, parts_of}
 use Rattle.zarr_codecs_meaning.specs.Types.{Cell, uint64}
+use Rattle.zarr_codecs_meaning.specs.Standing.{index_layout}
 use Rattle.zarr_sharding_changes.specs.Changes.{Change, appended, pairs_after}
 use Rattle.zarr_sharding_codec.specs.PartWriting.{AreChanged, Put}
 use Rattle.zarr_sharding_partial.specs.Shards.{ShardOf}
-use Rattle.zarr_sharding_index.specs.Held.{IsOpened, Held, held_as}
-use Rattle.zarr_sharding_index.specs.Written.{ChangesRefused, IsChanged}
-use Rattle.zarr_sharding_index.proofs.Reopened.{reopened}
 use Rattle.zarr_sharding_partial.specs.Puts.{IsWritten, NotWritten, Putting, new_cells}
 use Rattle.zarr_sharding_partial.specs.Tables.{IsTold, stored_of}
+use Rattle.zarr_sharding_index.specs.Held.{IsOpened, Held, held_as, index_coding}
+use Rattle.zarr_sharding_index.specs.Written.{ChangesRefused, IsChanged}
+use Rattle.zarr_sharding_index.proofs.Reopened.{reopened}
 use Rattle.zarr_sharding_partial.proofs.Known.{same_told}
 use Rattle.zarr_sharding_partial.proofs.Refused.{unwritten}
 
 -- the same changes of the same shard
 pub changed_as : {A : Type 0} (result : Result A CodecError) (index : Chain) (one : Bool) (location place : Location) (shape pairs_shape : List ℕ) (changes : List Change) (end ended : ℕ) (pairs : List Pair) (old later new : Option (List ℕ))
-    → place ≡ location → pairs_shape ≡ shape → old ≡ later → OnOk result (IsChanged index one place pairs_shape changes end pairs later new ended) → OnOk result (IsChanged index one location shape changes end pairs old new ended)
+    → place ≡ location → pairs_shape ≡ shape → old ≡ later → OnOk result (IsChanged (index_coding index one place pairs_shape) changes later end (held_as new pairs ended)) → OnOk result (IsChanged (index_coding index one location shape) changes old end (held_as new pairs ended))
 changed_as result index one location place shape pairs_shape changes end ended pairs old later new at_ is same made =
-    subst (λ (l : Location). OnOk result (IsChanged index one l shape changes end pairs old new ended)) at_
-    (subst (λ (sh : List ℕ). OnOk result (IsChanged index one place sh changes end pairs old new ended)) is
-    (subst (λ (o : Option (List ℕ)). OnOk result (IsChanged index one place pairs_shape changes end pairs o new ended)) (sym same) made))
+    subst (λ (l : Location). OnOk result (IsChanged (index_coding index one l shape) changes old end (held_as new pairs ended))) at_
+    (subst (λ (sh : List ℕ). OnOk result (IsChanged (index_coding index one place sh) changes old end (held_as new pairs ended))) is
+    (subst (λ (o : Option (List ℕ)). OnOk result (IsChanged (index_coding index one place pairs_shape) changes o end (held_as new pairs ended))) (sym same) made))
 
 pub refused_as : {A : Type 0} (result : Result A CodecError) (index : Chain) (location place : Location) (shape pairs_shape : List ℕ) (changes : List Change) (end : ℕ) (pairs : List Pair)
-    → place ≡ location → pairs_shape ≡ shape → ChangesRefused index place pairs_shape changes end pairs result → ChangesRefused index location shape changes end pairs result
+    → place ≡ location → pairs_shape ≡ shape → ChangesRefused (index_layout index place pairs_shape) changes end pairs result → ChangesRefused (index_layout index location shape) changes end pairs result
 refused_as result index location place shape pairs_shape changes end pairs at_ is why =
-    subst (λ (l : Location). ChangesRefused index l shape changes end pairs result) at_
-    (subst (λ (sh : List ℕ). ChangesRefused index place sh changes end pairs result) is why)
+    subst (λ (l : Location). ChangesRefused (index_layout index l shape) changes end pairs result) at_
+    (subst (λ (sh : List ℕ). ChangesRefused (index_layout index place sh) changes end pairs result) is why)
 
 -- what is known after a call that writes changes
 pub record IsAfter {A : Type 0} (result : Result A CodecError) (s : ShardOf) (one : Bool) (changes : List Change) (old new : Held) : Type 0 where
   pub pairs : OnOk result (new.pairs ≡ pairs_after old.end changes old.pairs)
   pub room : OnOk result (old.end + length (appended changes) < 2 ^ 63)
-  pub written : OnOk result (IsChanged s.index one s.location (index_shape s.shape s.subchunk) changes old.end new.pairs old.contents new.contents new.end)
+  pub written : OnOk result (IsChanged (index_coding s.index one s.location (index_shape s.shape s.subchunk)) changes old.contents old.end new)
   pub same : OnErr result ((new.pairs ≡ old.pairs) × (new.end ≡ old.end))
   pub err : OnErr result (new.contents ≡ old.contents)
 
@@ -43,9 +44,9 @@ pub after_told : {A : Type 0} (result : Result A CodecError) (s : ShardOf) (one 
 after_told (Ok value) s one changes old new h count lossless told =
     let shape = index_shape s.shape s.subchunk in
     let many = length (parts_of s.shape s.subchunk) in
-    subst (λ (ps : List Pair). IsOpened s.index s.location shape many new.contents ps new.end) (sym h.pairs)
+    subst (λ (ps : List Pair). IsOpened (index_layout s.index s.location shape) many new.contents ps new.end) (sym h.pairs)
     (reopened s.index one s.location shape changes many old.end new.end old.pairs old.contents new.contents lossless count h.room told
-    (subst (λ (ps : List Pair). IsChanged s.index one s.location shape changes old.end ps old.contents new.contents new.end) h.pairs h.written))
+    (subst (λ (ps : List Pair). IsChanged (index_coding s.index one s.location shape) changes old.contents old.end (held_as new.contents ps new.end)) h.pairs h.written))
 after_told (Err e) s one changes old new h count lossless told = same_told s old new h.same.0 h.same.1 h.err told
 
 pub after_written : {A : Type 0} (result : Result A CodecError) (put : Putting) (cells : List Cell) (changes : List Change) (old new : Held) → IsAfter result put.shard put.one changes old new → AreChanged (stored_of put.shard put.exact old) (new_cells put cells) changes → OnOk result (IsWritten put cells old new)
@@ -59,7 +60,7 @@ after_written (Ok value) put cells changes old new h changed = record {
 after_written (Err e) put cells changes old new h changed = tt
 
 pub after_refused : {A : Type 0} (result : Result A CodecError) (s : ShardOf) (exact : Bool) (new_cells : Put) (changes : List Change) (old : Held) → AreChanged (stored_of s exact old) new_cells changes
-    → ChangesRefused s.index s.location (index_shape s.shape s.subchunk) changes old.end (pairs_after old.end changes old.pairs) result → IfErr result (NotWritten s exact new_cells old)
+    → ChangesRefused (index_layout s.index s.location (index_shape s.shape s.subchunk)) changes old.end (pairs_after old.end changes old.pairs) result → IfErr result (NotWritten s exact new_cells old)
 after_refused (Ok value) s exact new_cells changes old changed why = tt
 after_refused {A} (Err e) s exact new_cells changes old changed why = unwritten A s exact new_cells old changes e changed why
 

@@ -1,12 +1,12 @@
 -- The slices of a shard after changes were written: those that were appended, and those that stay.
 use Rattle.std.proofs.Common.{◌≡◌, ◌∙◌, inl, inr, ℕ, zero, suc, ◌+◌, ◌-◌, ◌<◌, ◌^◌, List, [], ◌∷◌, ◌++◌, length, get_or, take, drop, ap, sym, refl, subst, arith, Bool, true, false, Option, Some, None, unwrap_or, append_assoc, length-append}
-use Rattle.std.specs.List.{list_all}
 use Rattle.std.proofs.lemmas.Bool.{and_parts}
+use Rattle.std.specs.List.{list_all}
 use Rattle.zarr_codecs_meaning.specs.Chains.{Chain, Location}
 use Rattle.zarr_codecs_meaning.specs.Decoding.{is_absent, slice_at}
 use Rattle.zarr_codecs_meaning.specs.Encoding.{Pair, absent_pair, base_of, index_size, slice_bytes}
 use Rattle.zarr_codecs_meaning.specs.Places.{index_shape, parts_of}
-use Rattle.zarr_codecs_meaning.specs.Standing.{HasSlice}
+use Rattle.zarr_codecs_meaning.specs.Standing.{HasSlice, index_layout}
 use Rattle.zarr_codecs_meaning.specs.Types.{Cell, Elements}
 use Rattle.zarr_codecs_meaning.proofs.Shards.{is_present, slice_found}
 use Rattle.zarr_sharding_changes.specs.Changes.{Change, appended, pairs_after}
@@ -70,7 +70,7 @@ module _ (subchunk : List ℕ) (inner index : Chain) (location : Location) (exac
       let lies = lies_at base h.end h.pairs k (opened_lies index location (index_shape shape subchunk) (length (parts_of shape subchunk)) h.end old h.pairs h.opened) low in
       let has = pair_has_slice base h.end kept_data p (opened_ends index location (index_shape shape subchunk) (length (parts_of shape subchunk)) h.end old h.pairs h.opened) low_end lies there in
       (slice, has, by_stored old h.opened has there) where
-        by_stored : (o : Option (List ℕ)) → IsOpened index location (index_shape shape subchunk) (length (parts_of shape subchunk)) o h.pairs h.end
+        by_stored : (o : Option (List ℕ)) → IsOpened (index_layout index location (index_shape shape subchunk)) (length (parts_of shape subchunk)) o h.pairs h.end
             → HasSlice base (data_of location (index_size index (index_shape shape subchunk)) o) (get_or h.pairs k absent_pair) (take (get_or h.pairs k absent_pair).1 (drop ((get_or h.pairs k absent_pair).0 - base) kept_data))
             → is_absent (get_or h.pairs k absent_pair) ≡ false → slice_at (unwrap_or o []) (get_or h.pairs k absent_pair) ≡ Some (take (get_or h.pairs k absent_pair).1 (drop ((get_or h.pairs k absent_pair).0 - base) kept_data))
         by_stored None opened has there =

@@ -1,11 +1,11 @@
 -- What a part of a shard is read as depends on what it meets.
 use Rattle.std.proofs.Common.{◌≡◌, ◌∙◌, ℕ, ◌<◌, suc, List, [], ◌∷◌, length, map, get_or, ap, sym, refl, arith, true, Option, Some, None, option_and_then, is_some, if◌then◌else◌, ◌==◌}
-use Rattle.std.specs.Prelude.{nat_lt}
-use Rattle.std.specs.List.{list_all}
 use Rattle.std.proofs.lemmas.Bool.{eq-eqb, ltb-true}
 use Rattle.std.proofs.lemmas.List.Folds.{list_any_at}
+use Rattle.std.specs.Prelude.{nat_lt}
+use Rattle.std.specs.List.{list_all}
 use Rattle.zarr_grids_boxes.specs.Boxes.{product}
-use Rattle.zarr_codecs_meaning.specs.Decoding.{all_there, cell_at, cell_of_part, is_absent, part_decoded}
+use Rattle.zarr_codecs_meaning.specs.Decoding.{all_there, cell_at, cell_of_part, is_absent, part_decoded, cell_of_pair}
 use Rattle.zarr_codecs_meaning.specs.Encoding.{Pair, absent_pair}
 use Rattle.zarr_codecs_meaning.specs.Fits.{fits}
 use Rattle.zarr_codecs_meaning.specs.Places.{index_shape, parts_of}
@@ -31,7 +31,7 @@ map_alike f g (n ∷ ns) same =
 part_of_shard : (s : ShardOf) (numbers value : List ℕ) (pairs : List Pair) → IsIndexHeld s.index s.location (index_shape s.shape s.subchunk) value pairs
     → part_decoded (chain_of s) s.elements s.shape value numbers ≡ shard_cells (subchunks_of s.inner s.elements s.shape s.subchunk) value pairs numbers
 part_of_shard s numbers value pairs held =
-    let meet = λ (n : ℕ). cell_of_part (cell_at s.inner s.elements) s.elements.fill value n (parts_of s.shape s.subchunk) in
+    let meet = λ (n : ℕ). cell_of_part (cell_of_pair (cell_at s.inner s.elements) s.elements.fill value) n (parts_of s.shape s.subchunk) in
     ap (λ (o : Option (List Pair)). if is_some o then all_there (map (λ n. option_and_then (meet n) o) numbers) else None) held.is
 
 -- the cell at a place depends on its slice

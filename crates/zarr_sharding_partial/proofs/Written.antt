@@ -11,12 +11,13 @@ use Rattle.zarr_codecs_meaning.specs.Payloads.{Payload}
 use Rattle.zarr_codecs_meaning.specs.Places.{index_shape, parts_of}
 use Rattle.zarr_codecs_meaning.specs.Standing as standing
 use Rattle.zarr_codecs_meaning.specs.Types.{Cell, is_value, uint64}
+use Rattle.zarr_codecs_meaning.specs.Standing.{index_layout}
 use Rattle.zarr_codecs_meaning.proofs.Shards.{is_present}
 use Rattle.zarr_codecs_traits.specs.Indexers.{Asked, numbers_asked}
 use Rattle.zarr_codecs_traits.specs.Arrays.{coded, update_of}
 use Rattle.zarr_codecs_traits.specs.PartWriting.{IsEncodedInto}
 use Rattle.zarr_sharding_changes.specs.Changes.{Change, appended, pairs_after}
-use Rattle.zarr_sharding_index.specs.Held.{IsOpened, Held}
+use Rattle.zarr_sharding_index.specs.Held.{IsOpened, Held, held_as, index_coding}
 use Rattle.zarr_sharding_index.specs.Written.{IsChanged}
 use Rattle.zarr_sharding_index.proofs.Counts.{changed_count}
 use Rattle.zarr_sharding_index.proofs.Reopened.{reopened}
@@ -96,12 +97,12 @@ module _ (put : Putting) (cells : List Cell) (old new : Held) (h : IsReady put.s
     opened = h.told;
     changed = w.changed;
     room = w.room;
-    written = subst (λ (ps : List Pair). IsChanged s.index one s.location (index_shape s.shape s.subchunk) w.changes old.end ps old.contents new.contents new.end) w.pairs w.written;
+    written = subst (λ (ps : List Pair). IsChanged (index_coding s.index one s.location (index_shape s.shape s.subchunk)) w.changes old.contents old.end (held_as new.contents ps new.end)) w.pairs w.written;
   }
 
   is_told : is_lossless s.index uint64 ≡ true → IsTold s new
   is_told lossless =
-      subst (λ (ps : List Pair). IsOpened s.index s.location (index_shape s.shape s.subchunk) (length (parts_of s.shape s.subchunk)) new.contents ps new.end) (sym w.pairs)
+      subst (λ (ps : List Pair). IsOpened (index_layout s.index s.location (index_shape s.shape s.subchunk)) (length (parts_of s.shape s.subchunk)) new.contents ps new.end) (sym w.pairs)
       (reopened s.index one s.location (index_shape s.shape s.subchunk) w.changes (length (parts_of s.shape s.subchunk)) old.end new.end old.pairs old.contents new.contents lossless h.count w.room h.told is_appended.written)
 
   -- the slice of a changed subchunk

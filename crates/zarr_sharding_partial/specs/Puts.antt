@@ -20,9 +20,9 @@ use Rattle.zarr_sharding_codec.specs.PartWriting.{AreChanged, IsLostAt, IsMet, I
 use Rattle.zarr_sharding_codec.specs.Slices.{IsPieceStored}
 use Rattle.zarr_sharding_partial.specs.Pairs.{index_length}
 use Rattle.zarr_sharding_partial.specs.Shards.{ShardOf, chain_of}
-use Rattle.zarr_sharding_index.specs.Held.{are_absent, shard_length, Held}
-use Rattle.zarr_sharding_index.specs.Written.{IsChanged}
 use Rattle.zarr_sharding_partial.specs.Tables.{IsTold, put_of, stored_of, table_of}
+use Rattle.zarr_sharding_index.specs.Held.{are_absent, shard_length, Held, index_coding}
+use Rattle.zarr_sharding_index.specs.Written.{IsChanged}
 
 -- ---- what is given
 
@@ -63,7 +63,7 @@ pub record IsWritten (put : Putting) (cells : List Cell) (old new : Held) : Type
   pub changed : AreChanged (stored_of put.shard put.exact old) (new_cells put cells) changes
   pub room : old.end + length (appended changes) < 2 ^ 63
   pub pairs : new.pairs ≡ pairs_after old.end changes old.pairs
-  pub written : IsChanged put.shard.index put.one put.shard.location (index_shape put.shard.shape put.shard.subchunk) changes old.end new.pairs old.contents new.contents new.end
+  pub written : IsChanged (index_coding put.shard.index put.one put.shard.location (index_shape put.shard.shape put.shard.subchunk)) changes old.contents old.end new
 
 -- what a call writes where the elements are valid ones, one for each place
 abbrev pub WritesValid : {A : Type 0} → Putting → Held → Held → Result A CodecError → Type 0

@@ -3,6 +3,7 @@ use Rattle.std.specs.Prelude.{◌≡◌, ℕ, List, [], ◌∷◌, length, map, 
 use Rattle.zarr_codecs_meaning.specs.Encoding.{Pair}
 use Rattle.zarr_codecs_meaning.specs.Places.{index_shape, parts_of, place_numbers}
 use Rattle.zarr_codecs_meaning.specs.Types.{Cell}
+use Rattle.zarr_codecs_meaning.specs.Standing.{index_layout}
 use Rattle.zarr_codecs_traits.specs.Indexers.{Asked, numbers_asked}
 use Rattle.zarr_codecs_traits.specs.PartWriting.{cells_shown}
 use Rattle.zarr_sharding_codec.specs.PartWriting.{Put, Stored, put_at, stored_in}
@@ -11,7 +12,7 @@ use Rattle.zarr_sharding_index.specs.Held.{IsOpened, Held, held_as}
 
 -- what is known of a shard is what opening it anew tells: the pairs that its index says, each of which lies in the data part; where there is no value, that each subchunk is absent
 abbrev pub IsTold : ShardOf → Held → Type 0
-IsTold s held = IsOpened s.index s.location (index_shape s.shape s.subchunk) (length (parts_of s.shape s.subchunk)) held.contents held.pairs held.end
+IsTold s held = IsOpened (index_layout s.index s.location (index_shape s.shape s.subchunk)) (length (parts_of s.shape s.subchunk)) held.contents held.pairs held.end
 
 -- the same, by cases of what the source holds
 abbrev pub TellsAgain : ShardOf → Option (List ℕ) → List Pair → ℕ → Type 0

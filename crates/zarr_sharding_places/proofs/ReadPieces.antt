@@ -17,7 +17,7 @@ use Rattle.zarr_codecs_meaning.proofs.Parts.{no_part, part_counts}
 use Rattle.zarr_codecs_meaning.proofs.PartsOnce.{number_in}
 use Rattle.zarr_codecs_meaning.proofs.Positions.{each_at}
 use Rattle.zarr_codecs_regions.specs.Updates.{put}
-use Rattle.zarr_sharding_places.specs.Pieces.{piece_decoded, shard_decoded}
+use Rattle.zarr_sharding_places.specs.Pieces.{piece_decoded, shard_decoded, subchunks_of}
 use Rattle.zarr_sharding_places.proofs.PartPlaces.{HasCount, IsPlace, arranged_place, place_below, place_held, places_apart}
 use Rattle.zarr_sharding_places.proofs.PutPlaces.{put_cases}
 
@@ -131,7 +131,7 @@ piece_count inner elements shape subchunk value pairs piece k cuts below is =
 
 -- cells that show all subchunks are those that the shard is decoded to
 pub shown_all : (inner : Chain) (elements : Elements) (shape subchunk value : List ℕ) (pairs : List Pair) (cells : List Cell) (n : ℕ) → can_cut shape subchunk ≡ true → length pairs ≡ length (parts_of shape subchunk) → length (parts_of shape subchunk) ≤ n
-    → length cells ≡ product shape → ShowsPieces inner elements value (parts_of shape subchunk) pairs cells n → shard_decoded inner elements shape subchunk value pairs ≡ Some cells
+    → length cells ≡ product shape → ShowsPieces inner elements value (parts_of shape subchunk) pairs cells n → shard_decoded (subchunks_of inner elements shape subchunk) value pairs ≡ Some cells
 shown_all inner elements shape subchunk value pairs cells n cuts same all whole shows =
     let parts = parts_of shape subchunk in
     let fill = elements.fill in
@@ -168,6 +168,6 @@ lost_piece inner elements value (part ∷ parts) (pair ∷ pairs) (suc k) below 
       none_then (Some cells) = refl
 
 pub lost_shard : (inner : Chain) (elements : Elements) (shape subchunk value : List ℕ) (pairs : List Pair) (k : ℕ) → k < length (parts_of shape subchunk) → piece_at inner elements value (parts_of shape subchunk) pairs k ≡ None
-    → shard_decoded inner elements shape subchunk value pairs ≡ None
+    → shard_decoded (subchunks_of inner elements shape subchunk) value pairs ≡ None
 lost_shard inner elements shape subchunk value pairs k below lost =
     ap (option_map (λ pieces. map (arranged elements.fill (parts_of shape subchunk) pieces) (place_numbers shape))) (lost_piece inner elements value (parts_of shape subchunk) pairs k below lost)

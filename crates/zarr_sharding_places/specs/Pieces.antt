@@ -12,8 +12,20 @@ use Rattle.zarr_codecs_meaning.specs.Types.{Cell, Elements}
 abbrev pub piece_decoded : Chain → Elements → List ℕ → List ℕ → Pair → Option (List Cell)
 piece_decoded inner elements value shape pair = if is_absent pair then Some (replicate (product shape) elements.fill) else option_and_then (decoded inner elements shape) (slice_at value pair)
 
--- the cells of the array of a shard whose index has these pairs
-abbrev pub shard_decoded : Chain → Elements → List ℕ → List ℕ → List ℕ → List Pair → Option (List Cell)
-shard_decoded inner elements shape subchunk value pairs =
-    option_map (λ pieces. map (arranged elements.fill (parts_of shape subchunk) pieces) (place_numbers shape))
-    (pieces_decoded (decoded inner elements) elements.fill value (parts_of shape subchunk) pairs)
+-- an array that is cut into subchunks: their chain, what the elements are, its shape and theirs
+pub record Subchunks : Type 0 where
+  pub inner : Chain
+  pub elements : Elements
+  pub shape : List ℕ
+  pub subchunk : List ℕ
+
+-- an array of this shape, cut into subchunks of that one
+abbrev pub subchunks_of : Chain → Elements → List ℕ → List ℕ → Subchunks
+subchunks_of inner elements shape subchunk = record { inner = inner; elements = elements; shape = shape; subchunk = subchunk }
+
+-- the cells of the array of a shard, by the pairs of its index
+abbrev pub shard_decoded : Subchunks → List ℕ → List Pair → Option (List Cell)
+shard_decoded array value pairs =
+    let parts = parts_of array.shape array.subchunk in
+    option_map (λ pieces. map (arranged array.elements.fill parts pieces) (place_numbers array.shape))
+    (pieces_decoded (decoded array.inner array.elements) array.elements.fill value parts pairs)

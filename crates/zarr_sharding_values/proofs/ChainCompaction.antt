@@ -1,15 +1,14 @@
 -- What compaction makes of values of any chain.
 use Rattle.std.proofs.Common.{◌≡◌, ◌∙◌, ℕ, ◌+◌, ◌^◌, List, [], ◌∷◌, length, ap, refl, sym, Option, Some, None, Bool, true, false, option_and_then, option_map, if◌then◌else◌, ◌==◌}
-use Rattle.std.specs.Prelude.{nat_lt, MatchBool}
 use Rattle.std.proofs.lemmas.Bool.{and_parts, eq-eqb}
-use Rattle.zarr_codecs_meaning.specs.Types.{Cell, Elements, uint64, zero_filled}
+use Rattle.std.specs.Prelude.{nat_lt, MatchBool}
+use Rattle.zarr_codecs_meaning.specs.Types.{Cell, Elements}
 use Rattle.zarr_codecs_meaning.specs.Chains.{ByteCodec, Chain, Location}
 use Rattle.zarr_codecs_meaning.specs.Chains.Chain.{bytes, packbits, vlen, optional, after_array_codec, then_bytes, sharded}
 use Rattle.zarr_codecs_meaning.specs.Places.{gather, encoded_shape, source_places, parts_of, index_shape}
 use Rattle.zarr_codecs_meaning.specs.Fits.{array_codec_fits, fits, is_plain}
 use Rattle.zarr_codecs_meaning.specs.Encoding.{Piece, encoded, index_size, joined_slices, pieces_of, stored_pieces}
-use Rattle.zarr_codecs_meaning.specs.Decoding.{decoded}
-use Rattle.zarr_codecs_meaning.specs.Standing.{Slices, IsEncoding, StandsBy, Tight}
+use Rattle.zarr_codecs_meaning.specs.Standing.{Slices, IsEncoding, StandsBy, Tight, index_layout}
 use Rattle.zarr_codecs_meaning.specs.Laws.{IsLawful}
 use Rattle.zarr_codecs_meaning.proofs.Lists.{bind_some}
 use Rattle.zarr_codecs_meaning.proofs.Representations.{shard_size}
@@ -160,7 +159,7 @@ standing_undamaged slices (then_bytes chain codec) elements shape value cells h 
 standing_undamaged slices (sharded subchunk inner index location) elements shape value cells h what =
     let pairs_shape = index_shape shape subchunk in
     let size = index_size index pairs_shape in
-    let found = shard_read (decoded index (zero_filled uint64) pairs_shape) (SliceStandsBy slices inner elements) location size elements.fill (pieces_of elements.fill cells (parts_of shape subchunk)) value h in
+    let found = shard_read (index_layout index location pairs_shape) (SliceStandsBy slices inner elements) elements.fill (pieces_of elements.fill cells (parts_of shape subchunk)) value h in
     let after = size + length (joined_slices found.0) in
     length_undamaged (length value == after) (nat_lt after (2 ^ 63)) (compacted subchunk index location shape value) (sym (shard_at subchunk index location shape value found.0 found.1) ∙ what)
 
@@ -204,7 +203,7 @@ encoded_gains_nothing (sharded subchunk inner index location) elements shape val
     let size = index_size index pairs_shape in
     let pieces = pieces_of elements.fill cells (parts_of shape subchunk) in
     let tight = encoded_tight (sharded subchunk inner index location) elements shape value cells lawful fit lossless are h in
-    let found = shard_read (decoded index (zero_filled uint64) pairs_shape) (IsEncoding inner elements) location size elements.fill pieces value tight in
+    let found = shard_read (index_layout index location pairs_shape) (IsEncoding inner elements) elements.fill pieces value tight in
     let after = size + length (joined_slices found.0) in
     let whole = compacted subchunk index location shape value in
     let long = shard_size subchunk inner index location elements shape value cells found.0 lawful.1 fit (are_stored (encoded inner elements) elements.fill pieces found.0 found.2) h in

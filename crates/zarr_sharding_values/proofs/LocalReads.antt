@@ -7,7 +7,7 @@ use Rattle.zarr_codecs_meaning.specs.Chains.{Chain}
 use Rattle.zarr_codecs_meaning.specs.Chains.Chain.{sharded}
 use Rattle.zarr_codecs_meaning.specs.Places.{Part, index_shape, parts_of, position_of}
 use Rattle.zarr_codecs_meaning.specs.Encoding.{Pair}
-use Rattle.zarr_codecs_meaning.specs.Decoding.{all_there, cell_at, cell_of_part, decoded, index_bytes, is_absent, pairs_of_cells, slice_at}
+use Rattle.zarr_codecs_meaning.specs.Decoding.{all_there, cell_at, cell_of_part, decoded, index_bytes, is_absent, pairs_of_cells, slice_at, cell_of_pair}
 use Rattle.zarr_sharding_values.specs.Local.{AreSameFor, HaveSameSlices, ReadIsLocal, ShardRead, pairs_read, size_of_index}
 
 -- whether a place lies in a subchunk
@@ -43,13 +43,13 @@ chosen true here also rest also_rest h r = h refl
 chosen false here also rest also_rest h r = r
 
 at_place : (read : List ℕ → List ℕ → ℕ → Option Cell) (fill : Cell) (n : ℕ) (value other : List ℕ) (parts : List Part) (pairs : List Pair) → SameAt n value other parts pairs
-    → cell_of_part read fill other n parts pairs ≡ cell_of_part read fill value n parts pairs
+    → cell_of_part (cell_of_pair read fill other) n parts pairs ≡ cell_of_part (cell_of_pair read fill value) n parts pairs
 at_place read fill n value other [] pairs h = refl
 at_place read fill n value other (part ∷ parts) [] h = refl
 at_place read fill n value other (part ∷ parts) (pair ∷ pairs) h =
     let k = position_of n part.places in
     let cell : Option (List ℕ) → Option Cell = λ slice. if is_absent pair then Some fill else option_and_then (λ found. read part.shape found k) slice in
-    chosen (lies_in part n) (cell (slice_at other pair)) (cell (slice_at value pair)) (cell_of_part read fill other n parts pairs) (cell_of_part read fill value n parts pairs) (λ is. ap cell (h.0 is))
+    chosen (lies_in part n) (cell (slice_at other pair)) (cell (slice_at value pair)) (cell_of_part (cell_of_pair read fill other) n parts pairs) (cell_of_part (cell_of_pair read fill value) n parts pairs) (λ is. ap cell (h.0 is))
     (at_place read fill n value other parts pairs h.1)
 
 each_place : (f g : ℕ → Option Cell) (value other : List ℕ) (parts : List Part) (pairs : List Pair) → ((n : ℕ) → SameAt n value other parts pairs → f n ≡ g n)
@@ -83,7 +83,7 @@ read_is_local read inner elements value other same = go (pairs_read read value) 
   go : (found : Option (List Pair)) → pairs_read read value ≡ found → part_of (pairs_read read other) other ≡ part_of (pairs_read read value) value
   go None is = ap (λ (o : Option (List Pair)). part_of o other) (same_pairs read value other same ∙ is) ∙ sym (ap (λ (o : Option (List Pair)). part_of o value) is)
   go (Some pairs) is =
-      let take : List ℕ → ℕ → Option (List Pair) → Option Cell = λ bytes n. option_and_then (cell_of_part (cell_at inner elements) elements.fill bytes n parts) in
+      let take : List ℕ → ℕ → Option (List Pair) → Option Cell = λ bytes n. option_and_then (cell_of_part (cell_of_pair (cell_at inner elements) elements.fill bytes) n parts) in
       let pointwise = λ (n : ℕ) (at : SameAt n value other parts pairs). ap (take other n) (same_pairs read value other same ∙ is) ∙ at_place (cell_at inner elements) elements.fill n value other parts pairs at ∙ sym (ap (take value n) is) in
       let all : cells other ≡ cells value = each_place (cell_at chain elements read.shape other) (cell_at chain elements read.shape value) value other parts pairs pointwise read.numbers (same.slices pairs is) in
       ap (λ (o : Option (List Pair)). part_of o other) (same_pairs read value other same) ∙ ap (λ (found : List (Option Cell)). if is_some (pairs_read read value) then all_there found else None) all

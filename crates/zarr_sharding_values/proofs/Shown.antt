@@ -1,8 +1,8 @@
 -- What compaction makes of a value is read as that value, whatever it is.
 use Rattle.std.proofs.Common.{◌≡◌, ◌∙◌, ℕ, zero, suc, ◌+◌, ◌-◌, ◌*◌, ◌≤◌, List, [], ◌∷◌, length, map, take, drop, ap, ap₂, refl, sym, inl, arith, Option, Some, None, Bool, true, false, ◌&&◌, option_and_then, option_map, if◌then◌else◌, length-drop, length-take}
-use Rattle.std.specs.Prelude.{nat_le, nat_lt, is_some}
 use Rattle.std.proofs.lemmas.Bool.{and_parts, leb-true, le-leb}
 use Rattle.std.proofs.lemmas.List.{drop-drop, drop-take}
+use Rattle.std.specs.Prelude.{nat_le, nat_lt, is_some}
 use Rattle.zarr_codecs_meaning.specs.Types.{Cell, of_bytes, absent, Elements, uint64, zero_filled}
 use Rattle.zarr_codecs_meaning.specs.Chains.{ByteCodec, Chain, Location}
 use Rattle.zarr_codecs_meaning.specs.Chains.Location.{at_start, at_end}
@@ -10,8 +10,8 @@ use Rattle.zarr_codecs_meaning.specs.Chains.Chain.{bytes, packbits, vlen, option
 use Rattle.zarr_codecs_meaning.specs.Places.{Part, encoded_shape, index_shape, parts_of, position_of, source_places}
 use Rattle.zarr_codecs_meaning.specs.Fits.{array_codec_fits, fits, is_lossless, is_plain}
 use Rattle.zarr_codecs_meaning.specs.Encoding.{Pair, Piece, base_of, encoded, index_size, joined_slices, pair_cells, pairs_from, shard_of}
-use Rattle.zarr_codecs_meaning.specs.Decoding.{all_there, cell_at, cell_of_part, decoded, index_bytes, is_absent, opens, pairs_in, pairs_of_cells, slice_at}
-use Rattle.zarr_codecs_meaning.specs.Standing.{ShardStands}
+use Rattle.zarr_codecs_meaning.specs.Decoding.{all_there, cell_at, cell_of_part, decoded, index_bytes, is_absent, opens, pairs_in, pairs_of_cells, slice_at, cell_of_pair}
+use Rattle.zarr_codecs_meaning.specs.Standing.{ShardStands, index_layout}
 use Rattle.zarr_codecs_meaning.specs.Laws.{IsLawful, IsLawfulChain}
 use Rattle.zarr_codecs_meaning.proofs.Counts.{decoded_count}
 use Rattle.zarr_codecs_meaning.proofs.Fitting.{fitted, shard_made}
@@ -90,7 +90,7 @@ by_test true a b c d one two = one
 by_test false a b c d one two = two
 
 by_stored : (inner : List ℕ → List ℕ → ℕ → Option Cell) (fill : Cell) (base : ℕ) («data» value : List ℕ) (place : ℕ) (parts : List Part) (pairs : List Pair) (stored : List (Option (List ℕ))) → ReadsSlices base «data» value
-    → slices_of base «data» pairs ≡ Some stored → cell_of_part inner fill value place parts pairs ≡ cell_of_stored inner fill place parts stored
+    → slices_of base «data» pairs ≡ Some stored → cell_of_part (cell_of_pair inner fill value) place parts pairs ≡ cell_of_stored inner fill place parts stored
 by_stored inner fill base «data» value place [] pairs stored reads h = refl
 by_stored inner fill base «data» value place (part ∷ parts) [] stored reads h = ap (λ (os : List (Option (List ℕ))). cell_of_stored inner fill place (part ∷ parts) os) (some_same h)
 by_stored inner fill base «data» value place (part ∷ parts) (pair ∷ pairs) stored reads h =
@@ -162,7 +162,7 @@ module _ (subchunk : List ℕ) (inner index : Chain) (location : Location) (elem
       let long = leb-true size (length value) both.0 in (
         ap is_some got.1,
         λ place.
-            ap (option_and_then (cell_of_part (cell_at inner elements) elements.fill value place (parts_of shape subchunk))) got.1
+            ap (option_and_then (cell_of_part (cell_of_pair (cell_at inner elements) elements.fill value) place (parts_of shape subchunk))) got.1
             ∙ by_stored (cell_at inner elements) elements.fill base (data_in location size value) value place (parts_of shape subchunk) got.0 stored (λ pair slice is. slice_read location size value pair slice long is) got.2,
       )
 
@@ -194,8 +194,8 @@ module _ (subchunk : List ℕ) (inner index : Chain) (location : Location) (elem
       let stands = (laws_of index lawful).stands words pairs_shape shard.index_bytes (pair_cells pairs) f.index_fits (inl lossless) shard.pairs_are shard.is_index in
       let back = stands_decoded index words pairs_shape shard.index_bytes (pair_cells pairs) lawful f.index_fits lossless shard.pairs_are stands in
       let laid = put IsItself absent base (joined_slices stored) (map piece_for stored) stored [] base (stand_themselves stored) refl (omega arith) shard.short in
-      let h : ShardStands (decoded index words pairs_shape) IsItself location size absent (map piece_for stored) made = (pairs, joined_slices stored, record { index_bytes = shard.index_bytes; long = long; read = back; is = sym shard.is }, laid) in
-      let found = shard_read (decoded index words pairs_shape) IsItself location size absent (map piece_for stored) made h in
+      let h : ShardStands (index_layout index location pairs_shape) IsItself absent (map piece_for stored) made = (pairs, joined_slices stored, record { index_bytes = shard.index_bytes; long = long; read = back; is = sym shard.is }, laid) in
+      let found = shard_read (index_layout index location pairs_shape) IsItself absent (map piece_for stored) made h in
       found.1 ∙ ap Some (are_themselves stored found.0 found.2)
 
 -- ---- chains

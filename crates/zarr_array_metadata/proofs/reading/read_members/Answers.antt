@@ -6,8 +6,8 @@ use Rattle.zarr_grids_chunk_grids.specs.Grids.{edges_of_grid, grid_of_chunks}
 use Rattle.zarr_array_meaning.specs.Documents.{read_members, document_of}
 use Rattle.zarr_array_meaning.specs.Parts.{has_no_transformers}
 use Rattle.zarr_array_meaning.specs.declared.error.DocumentError.TheVariants.{Memory}
-use Rattle.zarr_array_metadata.specs.Grids.{grid_for}
-use Rattle.zarr_array_metadata.proofs.ChunkGrids.{members_refused, members_refused_at_fill, members_refused_at_keys}
+use Rattle.zarr_array_fields.specs.Grids.{grid_for}
+use Rattle.zarr_array_fields.proofs.ChunkGrids.{members_refused, members_refused_at_fill, members_refused_at_keys}
 use Rattle.zarr_array_metadata.proofs.reading.read_members.Goals as goal
 
 pub returns-in_err-grid-clause-err : goal.returns-in_err-grid-clause-err

@@ -10,7 +10,7 @@ use Rattle.zarr_codecs_array_to_array.specs.declared.codec.ArrayToArrayCodec.{Ar
 use Rattle.zarr_codecs_traits.specs.Indexers.{shape_has}
 use Rattle.zarr_codecs_traits.specs.Outcomes.{DecodesArray}
 use Rattle.zarr_codecs_boxes.specs.Updates.{IsBoxIn}
-use Rattle.zarr_codecs_around.specs.MovedBoxes.{UndoesBox}
+use Rattle.zarr_codecs_around.specs.MovedBoxes.{UndoesBox, array_box}
 use Rattle.zarr_codecs_around.specs.Views.{codecs_of}
 use Rattle.zarr_codecs_around.proofs.MovedBoxes.{box_inside, unboxed_source, undoes_both, undoes_first, undoes_one, undoes_unboxed, undone_source}
 use Rattle.zarr_codecs_around.proofs.moved_boxes.+undo_box.Goals as goal
@@ -29,7 +29,7 @@ returns-then-is_empty-clause-undone t c =
     let few : length others ≤ 0 = omega arith in
     let alone : codecs_of c.args.codecs.now ≡ codec ∷ [] = ap codecs_of c.in-Some.ensures.cases.0 ∙ ap (λ (others : List ArrayToArrayCodec). codec ∷ codecs_of others) (drop_all 0 others few) in
     let undone = subst (λ es. DecodesArray codec elements es (payload_of found) r) c.shape.ensures c.decode.ensures in
-    subst (λ (codecs : List ArrayCodec). UndoesBox codecs elements shape region found r) (sym alone) (undoes_one codec elements shape region found r c.args.part.elements.now.fills box undone)
+    subst (λ (codecs : List ArrayCodec). UndoesBox codecs elements (array_box shape region) found r) (sym alone) (undoes_one codec elements shape region found r c.args.part.elements.now.fills box undone)
 
 pub returns-then-is_empty-clause-no_source : goal.returns-then-is_empty-clause-no_source
 returns-then-is_empty-clause-no_source t c = λ count. undone_source (codec_of c.in-Some.codec.now) (elements_of c.args.part.elements.now) c.shape.result.now (payload_of c.args.found) c.decode.result c.decode.ensures count
@@ -58,7 +58,7 @@ returns-in-Err-clause-undone t c =
     let region = region_of c.args.part.subset.now in
     let e = c.in-Err.error in
     let whole : codecs_of c.args.codecs.now ≡ first ++ last = ap codecs_of c.split_at.ensures.by_index.0 ∙ map-append codec_of c.split_at.result.0.now c.split_at.result.1.now in
-    subst (λ (codecs : List ArrayCodec). UndoesBox codecs elements shape region c.args.found (Err e)) (sym whole) (undoes_unboxed first last elements shape region c.args.found e c.in-Err.ensures)
+    subst (λ (codecs : List ArrayCodec). UndoesBox codecs elements (array_box shape region) c.args.found (Err e)) (sym whole) (undoes_unboxed first last elements shape region c.args.found e c.in-Err.ensures)
 
 pub returns-in-Err-clause-no_source : goal.returns-in-Err-clause-no_source
 returns-in-Err-clause-no_source t c = λ count. unboxed_source ArrayBytes (codecs_of c.split_at.result.0.now) c.args.part.shape.now (region_of c.args.part.subset.now) c.in-Err.error c.in-Err.ensures count
@@ -75,8 +75,8 @@ returns-in-Ok-undo_box-clause-undone t c =
     let moved = c.in-Ok-undo_box.moved in
     let r = c.undo_box-in-Ok-undo_box.result in
     let whole : codecs_of c.args.codecs.now ≡ first ++ last = ap codecs_of c.split_at.ensures.by_index.0 ∙ map-append codec_of c.split_at.result.0.now c.split_at.result.1.now in
-    let second = subst (λ es. UndoesBox last elements es (region_of after.subset) found (Ok moved)) c.as_slice.ensures.value c.in-Ok-undo_box.ensures.undone in
-    subst (λ (codecs : List ArrayCodec). UndoesBox codecs elements shape region found r) (sym whole)
+    let second = subst (λ es. UndoesBox last elements (array_box es (region_of after.subset)) found (Ok moved)) c.as_slice.ensures.value c.in-Ok-undo_box.ensures.undone in
+    subst (λ (codecs : List ArrayCodec). UndoesBox codecs elements (array_box shape region) found r) (sym whole)
     (undoes_both first last elements shape region after.shape.items (region_of after.subset) found moved r c.in-Ok.ensures second c.undo_box-in-Ok-undo_box.ensures.undone)
 
 pub returns-clause-undone : goal.returns-clause-undone
@@ -91,5 +91,5 @@ returns-clause-undone t c =
     let e = c.in-Err-undo_box.error in
     let box : IsBoxIn shape region = record { dimensions = c.args.part.subset.now.same; inside = c.args.part.inside } in
     let whole : codecs_of c.args.codecs.now ≡ first ++ last = ap codecs_of c.split_at.ensures.by_index.0 ∙ map-append codec_of c.split_at.result.0.now c.split_at.result.1.now in
-    let second = subst (λ es. UndoesBox last elements es (region_of after.subset) found (Err e)) c.as_slice.ensures.value c.in-Err-undo_box.ensures.undone in
-    subst (λ (codecs : List ArrayCodec). UndoesBox codecs elements shape region found (Err e)) (sym whole) (undoes_first first last elements shape region after.shape.items (region_of after.subset) found e box c.in-Ok.ensures second)
+    let second = subst (λ es. UndoesBox last elements (array_box es (region_of after.subset)) found (Err e)) c.as_slice.ensures.value c.in-Err-undo_box.ensures.undone in
+    subst (λ (codecs : List ArrayCodec). UndoesBox codecs elements (array_box shape region) found (Err e)) (sym whole) (undoes_first first last elements shape region after.shape.items (region_of after.subset) found e box c.in-Ok.ensures second)

@@ -6,7 +6,7 @@ use Rattle.zarr_codecs_arrays.specs.Views.{elements_of, payload_of}
 use Rattle.zarr_codecs_array_to_array.specs.Views.{codec_of}
 use Rattle.zarr_codecs_traits.specs.Outcomes.{EncodesArray}
 use Rattle.zarr_codecs_boxes.specs.Updates.{IsBoxIn}
-use Rattle.zarr_codecs_around.specs.MovedBoxes.{IsTurnedTo}
+use Rattle.zarr_codecs_around.specs.MovedBoxes.{IsTurnedTo, box_payload}
 use Rattle.zarr_codecs_around.specs.Views.{codecs_of}
 use Rattle.zarr_codecs_around.proofs.Left.{left_at}
 use Rattle.zarr_codecs_around.proofs.MovedBoxes.{IsTurnedLeft, turned_all_left, turned_less, turned_refused, turned_unboxed}
@@ -83,4 +83,4 @@ returns c =
     let place = region_of c.loop-codec.place.subset in
     let turned = payload_of c.loop-codec.turned in
     let none : codecs_of (drop c.loop-codec.codec-index c.args.codecs.now) ≡ [] = ap codecs_of (drop_all c.loop-codec.codec-index c.args.codecs.now c.loop-codec-test.false) in
-    c.loop-codec.invariant.turns now place turned (subst (λ (codecs : List ArrayCodec). IsTurnedTo codecs elements now place turned now place turned) (sym none) (refl, refl, refl))
+    c.loop-codec.invariant.turns now place turned (subst (λ (codecs : List ArrayCodec). IsTurnedTo codecs elements (box_payload now place turned) (box_payload now place turned)) (sym none) (refl, refl, refl))

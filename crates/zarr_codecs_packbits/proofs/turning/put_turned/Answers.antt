@@ -16,15 +16,15 @@ loop-element-preserved c =
     let rest = c.loop-element.rest.now in
     let left = c.in_ok-rest.ensures.rest in
     let one = element_turned turn.way turn.first turn.last parts (take read rest) in
-    let others = turned turn.way turn.first turn.last parts k (drop read rest) in
+    let others = turned turn parts k (drop read rest) in
     let all : (c.args.count - n) * read ≡ read + k * read = ap (λ m. m * read) more ∙ grind arith in
     let enough = c.loop-element.invariant.enough in
     let long = ap length left ∙ length-drop read rest in
     record {
       bits = ap are_bits left ∙ bits_drop read rest c.loop-element.invariant.bits;
       enough = omega (arith, all, enough, long);
-      written = ap (λ ns. c.push_element.new.out.items ++ turned turn.way turn.first turn.last parts k ns) left
+      written = ap (λ ns. c.push_element.new.out.items ++ turned turn parts k ns) left
           ∙ (ap (λ ns. ns ++ others) c.in_ok-rest.ensures.written
           ∙ (append_assoc c.loop-element.out.items one others
-          ∙ (ap (λ ns. c.loop-element.out.items ++ ns) (sym (ap (λ m. turned turn.way turn.first turn.last parts m rest) more)) ∙ c.loop-element.invariant.written)));
+          ∙ (ap (λ ns. c.loop-element.out.items ++ ns) (sym (ap (λ m. turned turn parts m rest) more)) ∙ c.loop-element.invariant.written)));
     }

@@ -8,5 +8,5 @@ abbrev pub invariant-loop-element : goal.invariant-loop-element
 invariant-loop-element l = record {
   bits : are_bits l.rest ≡ true;
   enough : (l.count - l._element) * element_bits_read l.turn.way l.turn.first l.turn.last (components_of l.parts) ≤ length l.rest;
-  written : l.out.items ++ turned l.turn.way l.turn.first l.turn.last (components_of l.parts) (l.count - l._element) l.rest ≡ turned l.turn.way l.turn.first l.turn.last (components_of l.parts) l.count l.bits;
+  written : l.out.items ++ turned l.turn (components_of l.parts) (l.count - l._element) l.rest ≡ turned l.turn (components_of l.parts) l.count l.bits;
 }

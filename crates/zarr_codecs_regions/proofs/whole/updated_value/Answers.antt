@@ -19,7 +19,7 @@ returns-in-Ok-update_array_bytes-clause-ok g c =
     let old = value_bytes c.args.old in
     let found = c.in-Ok-update_array_bytes.ensures in
     let has = has_updated chain elements (type_of c.data_type.result.now) shape asked payload array made old found.0 found.1 (g.met.C.WholeValues.lawful c.args.codec.now) c.args.part.elements.now.fills c.requires.given
-    c.in-Ok.ensures c.data_type.ensures found.2 in encoded_whole chain (g.C.WholeValues.is_function c.args.codec.now) elements shape asked payload array made old c.encode_updated.result has c.encode_updated.ensures
+    c.in-Ok.ensures c.data_type.ensures found.2 found.3 in encoded_whole chain (g.C.WholeValues.is_function c.args.codec.now) elements shape asked payload array made old c.encode_updated.result has c.encode_updated.ensures
 
 pub returns-in-Ok-update_array_bytes-clause-cause : goal.returns-in-Ok-update_array_bytes-clause-cause
 returns-in-Ok-update_array_bytes-clause-cause g c =
@@ -33,7 +33,7 @@ returns-in-Ok-update_array_bytes-clause-cause g c =
     let old = value_bytes c.args.old in
     let found = c.in-Ok-update_array_bytes.ensures in
     let has = has_updated chain elements (type_of c.data_type.result.now) shape asked payload array made old found.0 found.1 (g.met.C.WholeValues.lawful c.args.codec.now) c.args.part.elements.now.fills c.requires.given
-    c.in-Ok.ensures c.data_type.ensures found.2 in encode_refused chain (g.C.WholeValues.is_function c.args.codec.now) elements shape asked payload array made old c.encode_updated.result has c.encode_updated.ensures
+    c.in-Ok.ensures c.data_type.ensures found.2 found.3 in encode_refused chain (g.C.WholeValues.is_function c.args.codec.now) elements shape asked payload array made old c.encode_updated.result has c.encode_updated.ensures
 
 pub returns-in-Ok-update_array_bytes-clause-gapless : goal.returns-in-Ok-update_array_bytes-clause-gapless
 returns-in-Ok-update_array_bytes-clause-gapless g c =

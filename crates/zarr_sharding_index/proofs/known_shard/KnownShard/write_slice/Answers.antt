@@ -3,7 +3,7 @@ use Rattle.zarr_codecs_meaning.specs.Decoding.{is_absent}
 use Rattle.zarr_codecs_meaning.specs.Encoding.{Pair, absent_pair}
 use Rattle.zarr_sharding_index.specs.Present.{all_pairs}
 use Rattle.zarr_sharding_index.specs.Views.{location_of, pair_of}
-use Rattle.zarr_sharding_index.specs.Held.{are_absent}
+use Rattle.zarr_sharding_index.specs.Held.{are_absent, held_as, index_coding}
 use Rattle.zarr_sharding_index.specs.Known.{pairs_in}
 use Rattle.zarr_sharding_index.specs.Written.{IsAppended}
 use Rattle.zarr_sharding_index.proofs.OnlySlice.{present_after, present_there, put_back}
@@ -23,7 +23,7 @@ returns-in-Ok-clause-ok g c = λ honest.
     let index = g.X.ArrayToBytesCodecTraits.meaning c.args.codecs.now in
     let exact = g.X.ArrayToBytesCodecTraits.is_function c.args.codecs.now in
     let same : c.len-length.result ≡ length given.slice.items = omega (arith, c.len-length.ensures) in
-    inr (subst (λ n. IsAppended index exact (location_of self.location) self.shape.items ((given.number, Some given.slice.items) ∷ []) self.end (all_pairs c.put.new.self) (contents c.args.source.now) (contents c.append_slice.new.source) (self.end + n)) (sym same) (c.in-Ok.ensures.ok honest))
+    inr (subst (λ n. IsAppended (index_coding index exact (location_of self.location) self.shape.items) ((given.number, Some given.slice.items) ∷ []) (contents c.args.source.now) self.end (held_as (contents c.append_slice.new.source) (all_pairs c.put.new.self) (self.end + n))) (sym same) (c.in-Ok.ensures.ok honest))
 
 pub replace-requires : goal.replace-requires
 replace-requires g c =

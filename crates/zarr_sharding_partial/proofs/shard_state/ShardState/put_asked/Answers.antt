@@ -3,6 +3,7 @@ use Rattle.zarr_codecs_arrays.specs.Views.{elements_of, payload_of}
 use Rattle.zarr_codecs_meaning.specs.Chains.{Location}
 use Rattle.zarr_codecs_meaning.specs.Encoding.{index_size}
 use Rattle.zarr_codecs_meaning.specs.Places.{index_shape}
+use Rattle.zarr_codecs_meaning.specs.Standing.{index_layout}
 use Rattle.zarr_codecs_traits.specs.Indexers.{asked_of, numbers_asked}
 use Rattle.zarr_codecs_traits.specs.Writes.{most_to_patch}
 use Rattle.zarr_sharding_changes.specs.Changes.{pairs_after}
@@ -11,13 +12,13 @@ use Rattle.zarr_sharding_codec.specs.PartWriting.{IsOf, put_at}
 use Rattle.zarr_sharding_codec.proofs.EncodedShard.{index_part}
 use Rattle.zarr_sharding_partial.specs.Pairs.{index_length}
 use Rattle.zarr_sharding_partial.specs.Shards.{ShardOf}
+use Rattle.zarr_sharding_partial.specs.Puts.{Putting}
 use Rattle.zarr_sharding_index.specs.Stored.{index_fits}
 use Rattle.zarr_sharding_index.specs.Views.{location_of}
-use Rattle.zarr_sharding_index.specs.Held.{shard_length, Held, held_as}
+use Rattle.zarr_sharding_index.specs.Held.{shard_length, Held, held_as, index_coding}
 use Rattle.zarr_sharding_index.specs.Known.{end_of, pairs_in}
 use Rattle.zarr_sharding_index.specs.SliceChanges.{changes_of}
 use Rattle.zarr_sharding_index.specs.Written.{ChangesRefused, IsChanged}
-use Rattle.zarr_sharding_partial.specs.Puts.{Putting}
 use Rattle.zarr_sharding_partial.proofs.Changed.{IsAfter, after_refused, after_told, after_written, changed_as, refused_as}
 use Rattle.zarr_sharding_partial.proofs.Known.{again_told, pairs_count, told_again, told_of}
 use Rattle.zarr_sharding_partial.proofs.Refused.{unchanged, written_after}
@@ -87,7 +88,7 @@ invariant_of-self g c =
       pairs = c.write_given.ensures.known.pairs;
       room = c.write_given.ensures.known.room;
       written = changed_as result s.index one s.location (location_of self.known.location) (index_shape s.shape s.subchunk) pairs_shape changes old.end new.end new.pairs old.contents later new.contents self.located shape_is same
-          (subst (λ x. OnOk result (IsChanged (g.X.ArrayToBytesCodecTraits.meaning x) (g.X.ArrayToBytesCodecTraits.is_function x) (location_of self.known.location) pairs_shape changes old.end new.pairs later new.contents new.end)) c.index_codecs-codecs.ensures (c.write_given.ensures.ok still));
+          (subst (λ x. OnOk result (IsChanged (index_coding (g.X.ArrayToBytesCodecTraits.meaning x) (g.X.ArrayToBytesCodecTraits.is_function x) (location_of self.known.location) pairs_shape) changes later old.end new)) c.index_codecs-codecs.ensures (c.write_given.ensures.ok still));
       same = c.write_given.ensures.known.same;
       err = subst (λ (o : Option (List ℕ)). OnErr result (new.contents ≡ o)) (sym same) (c.write_given.ensures.call.err still);
     } in
@@ -131,7 +132,7 @@ returns-in-Ok-clause-ok g c = λ honest told cells valid.
       pairs = c.write_given.ensures.known.pairs;
       room = c.write_given.ensures.known.room;
       written = changed_as result s.index one s.location (location_of self.known.location) (index_shape s.shape s.subchunk) pairs_shape changes old.end new.end new.pairs old.contents later new.contents self.located shape_is same
-          (subst (λ x. OnOk result (IsChanged (g.X.ArrayToBytesCodecTraits.meaning x) (g.X.ArrayToBytesCodecTraits.is_function x) (location_of self.known.location) pairs_shape changes old.end new.pairs later new.contents new.end)) c.index_codecs-codecs.ensures (c.write_given.ensures.ok still));
+          (subst (λ x. OnOk result (IsChanged (index_coding (g.X.ArrayToBytesCodecTraits.meaning x) (g.X.ArrayToBytesCodecTraits.is_function x) (location_of self.known.location) pairs_shape) changes later old.end new)) c.index_codecs-codecs.ensures (c.write_given.ensures.ok still));
       same = c.write_given.ensures.known.same;
       err = subst (λ (o : Option (List ℕ)). OnErr result (new.contents ≡ o)) (sym same) (c.write_given.ensures.call.err still);
     } in
@@ -171,7 +172,7 @@ returns-in-Ok-clause-cause g c = λ honest told cells valid.
       pairs = c.write_given.ensures.known.pairs;
       room = c.write_given.ensures.known.room;
       written = changed_as result s.index one s.location (location_of self.known.location) (index_shape s.shape s.subchunk) pairs_shape changes old.end new.end new.pairs old.contents later new.contents self.located shape_is same
-          (subst (λ x. OnOk result (IsChanged (g.X.ArrayToBytesCodecTraits.meaning x) (g.X.ArrayToBytesCodecTraits.is_function x) (location_of self.known.location) pairs_shape changes old.end new.pairs later new.contents new.end)) c.index_codecs-codecs.ensures (c.write_given.ensures.ok still));
+          (subst (λ x. OnOk result (IsChanged (index_coding (g.X.ArrayToBytesCodecTraits.meaning x) (g.X.ArrayToBytesCodecTraits.is_function x) (location_of self.known.location) pairs_shape) changes later old.end new)) c.index_codecs-codecs.ensures (c.write_given.ensures.ok still));
       same = c.write_given.ensures.known.same;
       err = subst (λ (o : Option (List ℕ)). OnErr result (new.contents ≡ o)) (sym same) (c.write_given.ensures.call.err still);
     } in
@@ -182,7 +183,7 @@ returns-in-Ok-clause-cause g c = λ honest told cells valid.
     let still = subst IsTrue (laws.honest _ _ follows) honest in
     after_refused result s exact (put_at s.shape s.subchunk (numbers_asked s.shape (asked_of c.args.indexer)) cells) changes old (c.in-Ok.ensures.changes honest of cells valid)
     (refused_as result s.index s.location (location_of self.known.location) (index_shape s.shape s.subchunk) pairs_shape changes old.end (pairs_after old.end changes old.pairs) self.located shape_is
-    (subst (λ x. ChangesRefused (g.X.ArrayToBytesCodecTraits.meaning x) (location_of self.known.location) pairs_shape changes old.end (pairs_after old.end changes old.pairs) result) c.index_codecs-codecs.ensures (c.write_given.ensures.cause still)))
+    (subst (λ x. ChangesRefused (index_layout (g.X.ArrayToBytesCodecTraits.meaning x) (location_of self.known.location) pairs_shape) changes old.end (pairs_after old.end changes old.pairs) result) c.index_codecs-codecs.ensures (c.write_given.ensures.cause still)))
 
 pub returns-in-Err-clause-cause : goal.returns-in-Err-clause-cause
 returns-in-Err-clause-cause g c = λ honest told cells valid.

@@ -2,7 +2,7 @@
 use Rattle.serde_json.specs.Data.{Members}
 use Rattle.serde_json.specs.View.{view}
 use Rattle.zarr_array_meaning.specs.Documents.{FieldsFound}
-use Rattle.zarr_array_metadata.specs.declared.fields.RequiredFields.{RequiredFields}
+use Rattle.zarr_array_fields.specs.declared.fields.RequiredFields.{RequiredFields}
 
 -- the fields that every document has, with these attributes
 abbrev pub fields_view : RequiredFields → Members → FieldsFound

@@ -3,7 +3,7 @@ use Rattle.std.proofs.lemmas.Result.{MatchResult-weaker}
 use Rattle.serde_json.specs.Data.{no_members}
 use Rattle.serde_json.specs.View.{members_view}
 use Rattle.zarr_grids_metadata.proofs.Clones.{members_view-clone}
-use Rattle.zarr_array_metadata.proofs.writing.given_attributes.Goals as goal
+use Rattle.zarr_array_fields.proofs.writing.given_attributes.Goals as goal
 
 pub returns-in-Some : goal.returns-in-Some
 returns-in-Some c =

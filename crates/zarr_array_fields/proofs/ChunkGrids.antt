@@ -20,8 +20,8 @@ use Rattle.zarr_array_meaning.specs.Parts.{codecs_in, fill_in, has_no_transforme
 use Rattle.zarr_array_meaning.specs.Documents.{FieldsFound, fields_in, additional_in, must_understand_any, ◌>>=◌, ◌>>◌, check, read_members, document_of}
 use Rattle.zarr_array_meaning.specs.declared.error.DocumentError.{DocumentError}
 use Rattle.zarr_array_meaning.specs.declared.error.DocumentError.TheVariants as error
-use Rattle.zarr_array_metadata.specs.Grids.{grid_for}
-use Rattle.zarr_array_metadata.proofs.GridSizes.{grid_sizes}
+use Rattle.zarr_array_fields.specs.Grids.{grid_for}
+use Rattle.zarr_array_fields.proofs.GridSizes.{grid_sizes}
 
 -- the grid that the edges of a chunk grid make of its shape
 pub grid_made : (grid : ChunkGrid) (shape : List ℕ) → sizes_of_grid grid ≡ shape → grid_in shape (edges_of_grid grid) ≡ Some (grid_of_chunks grid)

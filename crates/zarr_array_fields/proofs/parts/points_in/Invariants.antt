@@ -2,7 +2,7 @@ use Rattle.std.proofs.Common.{◌≡◌, ◌++◌, drop, map, option_map}
 use Rattle.serde_json.specs.View.{items_view}
 use Rattle.zarr_grids_metadata.specs.Views.{point_of}
 use Rattle.zarr_codecs_metadata.specs.Chains.{points_in}
-use Rattle.zarr_array_metadata.proofs.parts.points_in.Given as goal
+use Rattle.zarr_array_fields.proofs.parts.points_in.Given as goal
 
 -- what is left goes on from the points so far
 abbrev pub invariant-loop-value : goal.invariant-loop-value

@@ -7,43 +7,17 @@ ghost use Rattle.zarr_codecs_types.specs.Metadata.{data_type_in};
 ghost use Rattle.zarr_codecs_types.specs.Views.{type_of};
 ghost use Rattle.zarr_codecs_arrays.specs.Views.{elements_of};
 ghost use Rattle.zarr_codecs_metadata.specs.Chains.{points_in};
-ghost use Rattle.zarr_sharding_chains.specs.ArrayChains.{array_meaning};
-ghost use Rattle.zarr_array_meaning.specs.Parts.{codecs_in, fill_in, has_no_transformers, is_empty_list};
+ghost use Rattle.zarr_array_meaning.specs.Parts.{fill_in, has_no_transformers, is_empty_list};
 
 use serde_json::Value;
 use std::alloc::{AllocError, Global};
 use zarr_array_meaning::DocumentError;
 use zarr_codecs_arrays::Elements;
-use zarr_codecs_traits::BytesToBytesCodecTraits;
 use zarr_codecs_types::{DataType, DataTypeError, FillValue, FillValueError};
-use zarr_grids_metadata::{MetadataV3, PluginCreateError};
-use zarr_sharding_chains::{ArrayChain, read_array_chain};
-
-/// The codecs; `Codecs` where they make no chain that is known.
-pub(crate) fn codecs_in<B: BytesToBytesCodecTraits>(
-    alloc: Global,
-    codecs: &Value,
-) -> Result<ArrayChain<B>, DocumentError>
-    ensures ok { IfOk result (λ chain. ok_or (codecs_in B.reads (view codecs.now))
-        DocumentError.Codecs ≡ Ok (array_meaning B.meaning chain)) }
-    ensures err { IfErr result (λ e. e ≢ DocumentError.Memory
-        → ok_or (codecs_in B.reads (view codecs.now)) DocumentError.Codecs ≡ Err e) }
-{
-    let Some(codecs) = codecs.as_array() else {
-        return Err(DocumentError::Codecs);
-    };
-    let Some(points) = points_in(alloc, codecs.as_slice())? else {
-        return Err(DocumentError::Codecs);
-    };
-    match read_array_chain(alloc, points.as_slice()) {
-        Ok(chain) => Ok(chain),
-        Err(PluginCreateError::Memory) => Err(DocumentError::Memory),
-        Err(_) => Err(DocumentError::Codecs),
-    }
-}
+use zarr_grids_metadata::MetadataV3;
 
 /// The extension points of a list, where each of its values is one.
-fn points_in(alloc: Global, values: &[Value]) -> Result<Option<Vec<MetadataV3>>, AllocError>
+pub fn points_in(alloc: Global, values: &[Value]) -> Result<Option<Vec<MetadataV3>>, AllocError>
     ensures { IfOk result (λ found.
         option_map (λ points. map point_of points.items) found
         ≡ points_in (items_view values.now)) }
@@ -59,7 +33,7 @@ fn points_in(alloc: Global, values: &[Value]) -> Result<Option<Vec<MetadataV3>>,
 }
 
 /// The data type; `DataTypes` where it is none that is known.
-pub(crate) fn type_in(alloc: Global, data_type: &Value) -> Result<DataType, DocumentError>
+pub fn type_in(alloc: Global, data_type: &Value) -> Result<DataType, DocumentError>
     ensures ok { IfOk result (λ found. ok_or (data_type_in (view data_type.now))
         DocumentError.DataTypes ≡ Ok (type_of found)) }
     ensures err { IfErr result (λ e. e ≢ DocumentError.Memory
@@ -73,7 +47,7 @@ pub(crate) fn type_in(alloc: Global, data_type: &Value) -> Result<DataType, Docu
 }
 
 /// Elements of a data type; `FillValue` where the field is no value of it.
-pub(crate) fn elements_in(
+pub fn elements_in(
     alloc: Global,
     data_type: DataType,
     fill_value: &Value,
@@ -93,7 +67,7 @@ pub(crate) fn elements_in(
 }
 
 /// Whether storage transformers are absent or an empty list.
-pub(crate) fn has_no_transformers(transformers: Option<&Value>) -> bool
+pub fn has_no_transformers(transformers: Option<&Value>) -> bool
     ensures { result ≡ has_no_transformers (option_map (λ v. view v.now) transformers.entry) }
 {
     match transformers {

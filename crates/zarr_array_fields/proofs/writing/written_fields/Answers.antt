@@ -1,8 +1,8 @@
 use Rattle.std.proofs.Common.{◌∙◌, option_map}
 use Rattle.serde_json.specs.View.{members_view}
 use Rattle.zarr_codecs_types.specs.Views.{type_of}
-use Rattle.zarr_array_metadata.proofs.Ascending.{Walk-none, Walk-more, Walk-all}
-use Rattle.zarr_array_metadata.proofs.writing.written_fields.Goals as goal
+use Rattle.zarr_array_fields.proofs.Ascending.{Walk-none, Walk-more, Walk-all}
+use Rattle.zarr_array_fields.proofs.writing.written_fields.Goals as goal
 
 pub loop-name-init : goal.loop-name-init
 loop-name-init c =

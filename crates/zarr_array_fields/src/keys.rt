@@ -12,7 +12,7 @@ use zarr_grids_keys::ChunkKeyEncoding;
 use zarr_grids_metadata::{MetadataV3, PluginCreateError};
 
 /// The chunk key encoding; `ChunkKeyEncoding` where it is none that is known.
-pub(crate) fn keys_in(alloc: Global, value: &Value) -> Result<ChunkKeyEncoding, DocumentError>
+pub fn keys_in(alloc: Global, value: &Value) -> Result<ChunkKeyEncoding, DocumentError>
     ensures ok { IfOk result (λ keys.
         ok_or (keys_in (view value.now)) DocumentError.ChunkKeyEncoding ≡ Ok (keys_of keys)) }
     ensures err { IfErr result (λ e. e ≢ DocumentError.Memory

@@ -7,7 +7,7 @@ ghost use Rattle.zarr_array_meaning.specs.Parts.{name_in, names_for, dimension_n
 use serde_json::Value;
 
 /// Whether dimension names are absent, null, or a list with one for each dimension.
-pub(crate) fn are_dimension_names(names: Option<&Value>, dimensions: usize) -> bool
+pub fn are_dimension_names(names: Option<&Value>, dimensions: usize) -> bool
     ensures { result
         ≡ is_some (dimension_names_in dimensions (option_map (λ v. view v.now) names.entry)) }
 {

@@ -2,8 +2,8 @@ use Rattle.std.proofs.Common.{map, sym, ap, ◌∙◌, arith}
 use Rattle.std.proofs.lemmas.List.{take_all}
 use Rattle.serde_json.specs.View.{view, items_of}
 use Rattle.zarr_grids_metadata.specs.ExtensionPoints.{written_point_in}
-use Rattle.zarr_array_metadata.proofs.Lists.{points_written}
-use Rattle.zarr_array_metadata.proofs.writing.written_points.Goals as goal
+use Rattle.zarr_array_fields.proofs.Lists.{points_written}
+use Rattle.zarr_array_fields.proofs.writing.written_points.Goals as goal
 
 pub returns : goal.returns
 returns c =

@@ -13,7 +13,7 @@ use zarr_grids_metadata::{member, must_understand_field};
 
 /// The fields that every document has.
 #[derive(Drop)]
-pub(crate) struct RequiredFields<'v> {
+pub struct RequiredFields<'v> {
     pub shape: Vec<u64>,
     pub data_type: &'v Value,
     pub chunk_grid: &'v Value,
@@ -26,12 +26,12 @@ impl<'v> RequiredFields<'v> {
     ghost use Rattle.std.specs.Prelude.{◌≡◌, ◌≢◌, IfOk, IfErr, Ok, Err};
     ghost use Rattle.serde_json.specs.View.{members_view};
     ghost use Rattle.zarr_array_meaning.specs.Documents.{fields_in};
-    ghost use Rattle.zarr_array_metadata.specs.Views.{fields_view};
+    ghost use Rattle.zarr_array_fields.specs.Views.{fields_view};
     ghost use Rattle.zarr_array_meaning.specs.Written.{given_attributes};
 
     /// Reads the fields of an object; `Fields` where one is missing or of another kind, or where
     /// the attributes are no object.
-    pub(crate) fn read(
+    pub fn read(
         alloc: Global,
         members: &'v Map<String, Value>,
     ) -> Result<RequiredFields<'v>, DocumentError>
@@ -102,7 +102,7 @@ fn are_attributes(attributes: Option<&Value>) -> bool
 }
 
 /// Whether a field beside the document's own has to be understood.
-pub(crate) fn must_understand_any(members: &Map<String, Value>) -> bool
+pub fn must_understand_any(members: &Map<String, Value>) -> bool
     ensures { result ≡ must_understand_any (additional_in (members_view members.now.entries)) }
 {
     for (name, value) in members.iter() {

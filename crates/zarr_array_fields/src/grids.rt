@@ -5,7 +5,7 @@ ghost use Rattle.zarr_grids_dimensions.specs.Lookups.{size_of};
 ghost use Rattle.zarr_grids_configurations.specs.Configurations.{configuration_in};
 ghost use Rattle.zarr_grids_configurations.specs.Grids.{grid_in};
 ghost use Rattle.zarr_grids_chunk_grids.specs.Grids.{grid_of_chunks, sizes_of_grid, edges_of_grid};
-ghost use Rattle.zarr_array_metadata.specs.Grids.{grid_for};
+ghost use Rattle.zarr_array_fields.specs.Grids.{grid_for};
 
 use serde_json::Value;
 use std::alloc::Global;
@@ -18,11 +18,7 @@ use zarr_grids_metadata::{MetadataV3, PluginCreateError};
 /// `Dimensionality` where it has another dimensionality than the shape, and then `ChunkGrid` where
 /// it is no grid of the shape.
 #[tactic(auto, using(crate::proofs::ChunkGrids::grid_made, crate::proofs::ChunkGrids::grid_sized, crate::proofs::ChunkGrids::grid_counted))]
-pub(crate) fn grid_in(
-    alloc: Global,
-    value: &Value,
-    shape: &[u64],
-) -> Result<ChunkGrid, DocumentError>
+pub fn grid_in(alloc: Global, value: &Value, shape: &[u64]) -> Result<ChunkGrid, DocumentError>
     ensures configuration { IfOk result
         (λ grid. configuration_in (view value.now) ≡ Some (edges_of_grid grid)) }
     ensures same { IfOk result (λ grid. length (edges_of_grid grid) ≡ length shape.now) }

@@ -1,7 +1,7 @@
 use Rattle.std.proofs.Common.{◌≡◌}
 use Rattle.serde_json.specs.View.{members_view}
 use Rattle.zarr_array_meaning.specs.Documents.{additional_in, must_understand_any}
-use Rattle.zarr_array_metadata.proofs.fields.must_understand_any.Given as goal
+use Rattle.zarr_array_fields.proofs.fields.must_understand_any.Given as goal
 
 -- the fields that are left answer as all do
 abbrev pub invariant-loop-name : goal.invariant-loop-name

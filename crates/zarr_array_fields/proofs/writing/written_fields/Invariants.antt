@@ -1,8 +1,8 @@
 use Rattle.std.proofs.Common.{option_map}
 use Rattle.serde_json.specs.View.{members_view}
 use Rattle.zarr_codecs_types.specs.Views.{type_of}
-use Rattle.zarr_array_metadata.proofs.Ascending.{Walk}
-use Rattle.zarr_array_metadata.proofs.writing.written_fields.Given as goal
+use Rattle.zarr_array_fields.proofs.Ascending.{Walk}
+use Rattle.zarr_array_fields.proofs.writing.written_fields.Given as goal
 
 -- the fields that were passed are written, and the others come after them
 abbrev pub invariant-loop-name : goal.invariant-loop-name
