@@ -47,7 +47,7 @@ impl<I: ArrayToBytesCodecTraits, X: ArrayToBytesCodecTraits> ShardingCodec<I, X>
     {
         match self.index_in(alloc, value.as_slice(), array.shape, size) {
             Ok(index) => {
-                let slices = slices_present(alloc, &index)?;
+                let slices = slices_present(alloc, index)?;
                 let shape = array.shape.to_vec(alloc)?;
                 Ok(ValuePieces {
                     data: value,
@@ -167,13 +167,14 @@ impl<I: ArrayToBytesCodecTraits, X: ArrayToBytesCodecTraits> ShardingCodec<I, X>
 }
 
 /// The slices of the subchunks that are present, in their order.
-fn slices_present(alloc: Global, index: &ShardIndex) -> Result<Vec<PieceSlice>, AllocError>
-    ensures { IfOk result (λ slices. AreSliced (pairs_of index.now) slices.items) }
+fn slices_present(alloc: Global, index: ShardIndex) -> Result<Vec<PieceSlice>, AllocError>
+    ensures { IfOk result (λ slices. AreSliced (pairs_of index) slices.items) }
 {
     let pairs = PresentPairs::from_index(alloc, index)?;
-    let present = pairs.present();
-    let mut slices = Vec::with_capacity(alloc, present.len())?;
-    for pair in present {
+    let count = pairs.count_present();
+    let mut slices = Vec::with_capacity(alloc, count)?;
+    for k in 0..count {
+        let pair = pairs.nth(k);
         slices.push(PieceSlice {
             number: pair.number as u64,
             range: pair.range,

@@ -15,3 +15,6 @@ pub mod Opened
 pub mod Lying
 pub mod Appending
 pub mod Reopened
+pub mod Numbered
+pub mod Kept
+pub mod PairMoves

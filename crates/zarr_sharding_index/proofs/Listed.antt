@@ -36,7 +36,7 @@ are_told from count (p ∷ ps) h =
     and_from (nat_le from p.number && nat_lt p.number count && there) (are_present (p.number + 1) count ps) first (are_told (p.number + 1) count ps h.3)
 
 -- the same from a lower number on
-listed_lower : (from low count : ℕ) (ps : List PresentPair) → low ≤ from → AreListed from count ps → AreListed low count ps
+pub listed_lower : (from low count : ℕ) (ps : List PresentPair) → low ≤ from → AreListed from count ps → AreListed low count ps
 listed_lower from low count [] le h = tt
 listed_lower from low count (p ∷ ps) le h = let first = h.0 in (omega (arith, le, first), h.1, h.2, h.3)
 
@@ -66,7 +66,7 @@ numbers_rise from count (p ∷ ps) (suc i) (suc j) d h lt low = numbers_rise (p.
 
 -- ---- the pair of a subchunk
 
-pair_here : (p : PresentPair) (ps : List PresentPair) (n : ℕ) → p.number ≡ n → pair_listed (p ∷ ps) n ≡ pair_of p.range
+pub pair_here : (p : PresentPair) (ps : List PresentPair) (n : ℕ) → p.number ≡ n → pair_listed (p ∷ ps) n ≡ pair_of p.range
 pair_here p ps n is = ap (λ (b : Bool). if b then pair_of p.range else pair_listed ps n) (eq-eqb p.number n is)
 
 pair_later : (p : PresentPair) (ps : List PresentPair) (n : ℕ) → (p.number ≡ n → ⊥) → pair_listed (p ∷ ps) n ≡ pair_listed ps n
@@ -359,7 +359,7 @@ full_more count i ps d h low =
 -- ---- tests of all pairs
 
 -- behind the number of the first pair
-later_from : (p : PresentPair) (ps : List PresentPair) (a m : ℕ) → p.number < a → map (pair_listed (p ∷ ps)) (range_with_len a m) ≡ map (pair_listed ps) (range_with_len a m)
+pub later_from : (p : PresentPair) (ps : List PresentPair) (a m : ℕ) → p.number < a → map (pair_listed (p ∷ ps)) (range_with_len a m) ≡ map (pair_listed ps) (range_with_len a m)
 later_from p ps a zero low = refl
 later_from p ps a (suc m) low =
     let first = pair_later p ps a (λ e. omega (arith, e, low)) in

@@ -81,7 +81,7 @@ in_parts bytes =
     sym (take-append-drop 8 bytes) ∙ ap (λ bs. take 8 bytes ++ bs) (sym (take-append-drop 8 (drop 8 bytes)) ∙ ap (λ bs. take 8 (drop 8 bytes) ++ bs) past)
 
 -- the first pair, and those of the others
-pairs_cons : (bytes : List ℕ) → 16 ≤ length bytes → pairs_of_bytes bytes ≡ pair (number 256 (take 8 bytes)) (number_from 8 bytes) ∷ pairs_of_bytes (drop 16 bytes)
+pub pairs_cons : (bytes : List ℕ) → 16 ≤ length bytes → pairs_of_bytes bytes ≡ pair (number 256 (take 8 bytes)) (number_from 8 bytes) ∷ pairs_of_bytes (drop 16 bytes)
 pairs_cons bytes enough =
     let one : length (take 8 bytes) ≡ 8 = length-take 8 bytes ∙ omega (arith, enough) in
     let two : length (take 8 (drop 8 bytes)) ≡ 8 = length-take 8 (drop 8 bytes) ∙ omega (arith, enough, length-drop 8 bytes) in
@@ -136,7 +136,7 @@ sixteen : (bytes : List ℕ) → take 16 bytes ≡ take 8 bytes ++ take 8 (drop 
 sixteen bytes = take_more 8 8 16 bytes refl
 
 -- bytes that begin with the same sixteen
-front_first : (bytes others : List ℕ) → 16 ≤ length bytes → pairs_of_bytes (take 16 bytes ++ others) ≡ pair (number 256 (take 8 bytes)) (number_from 8 bytes) ∷ pairs_of_bytes others
+pub front_first : (bytes others : List ℕ) → 16 ≤ length bytes → pairs_of_bytes (take 16 bytes ++ others) ≡ pair (number 256 (take 8 bytes)) (number_from 8 bytes) ∷ pairs_of_bytes others
 front_first bytes others enough =
     let one : length (take 8 bytes) ≡ 8 = length-take 8 bytes ∙ omega (arith, enough) in
     let two : length (take 8 (drop 8 bytes)) ≡ 8 = length-take 8 (drop 8 bytes) ∙ omega (arith, enough, length-drop 8 bytes) in

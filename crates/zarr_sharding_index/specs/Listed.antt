@@ -6,6 +6,16 @@ use Rattle.zarr_codecs_meaning.specs.Encoding.{Pair, absent_pair}
 use Rattle.zarr_sharding_index.specs.Views.{pair_of}
 use Rattle.zarr_sharding_index.specs.declared.pair.PresentPair.{PresentPair}
 
+-- numbers of subchunks, and a pair for each of them
+abbrev pub numbered : List ℕ → List Pair → List PresentPair
+numbered [] pairs = []
+numbered (n ∷ ns) [] = []
+numbered (n ∷ ns) (pair ∷ pairs) = record { number = n; range = record { offset = pair.0; length = pair.1 } } ∷ numbered ns pairs
+
+-- the numbers of present subchunks, by the pairs of all
+abbrev pub present_numbers : List Pair → List ℕ
+present_numbers pairs = filter (λ n. not (is_absent (get_or pairs n absent_pair))) (range_with_len 0 (length pairs))
+
 -- whether pairs are those of present subchunks, whose numbers rise from one on, so that no two are alike, and stay below a count
 abbrev pub are_present : ℕ → ℕ → List PresentPair → Bool
 are_present from count [] = true

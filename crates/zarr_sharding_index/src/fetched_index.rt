@@ -88,7 +88,7 @@ pub fn fetch_index<X: ArrayToBytesCodecTraits, D: BytesPartialDecoderTraits>(
             match fetch_slice(alloc, source, total, range) {
                 Ok(bytes) => match read_index(alloc, codec, bytes, layout.shape) {
                     Ok(index) => {
-                        let pairs = PresentPairs::from_index(alloc, &index)?;
+                        let pairs = PresentPairs::from_index(alloc, index)?;
                         Ok(Some(FetchedIndex { pairs, total }))
                     }
                     Err(error) => Err(error),

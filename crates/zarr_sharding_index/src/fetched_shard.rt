@@ -81,9 +81,8 @@ fn data_end(location: ShardingIndexLocation, size: u64, total: u64) -> Option<u6
 fn all_lie_between(pairs: &PresentPairs, base: u64, end: u64) -> bool
     ensures { result ≡ list_all (lies_between base end) (all_pairs pairs.now) }
 {
-    let present = pairs.present();
-    for pair in present {
-        if !lies_between(pair.range, base, end) {
+    for k in 0..pairs.count_present() {
+        if !lies_between(pairs.nth(k).range, base, end) {
             return false;
         }
     }

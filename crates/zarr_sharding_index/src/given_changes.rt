@@ -15,11 +15,11 @@ struct GivenSlice {
 }
 
 impl KnownShard {
-    ghost use Rattle.std.specs.Prelude.{◌≡◌, ◌+◌, ◌<◌, ◌^◌, length, false, true, OnOk, IsTrue};
+    ghost use Rattle.std.specs.Prelude.{◌≡◌, ◌+◌, ◌<◌, ◌^◌, length, false, true, IfSome, OnOk, IsTrue};
     ghost use Rattle.std.specs.List.{list_all};
     ghost use Rattle.zarr_codecs_meaning.specs.Encoding.{index_size};
     ghost use Rattle.zarr_codecs_meaning.specs.Standing.{index_layout};
-    ghost use Rattle.zarr_sharding_index.specs.Stored.{index_fits};
+    ghost use Rattle.zarr_sharding_index.specs.Stored.{IsIndexWritten, index_fits};
     ghost use Rattle.zarr_sharding_index.specs.Calls.{CalledToWrite, KnownAfter, change_given};
     ghost use Rattle.zarr_sharding_index.specs.Held.{are_absent, held_as};
     ghost use Rattle.zarr_sharding_index.specs.Known.{end_of, pairs_in, known_location, known_shape, known_length, held_by, known_index};
@@ -128,15 +128,31 @@ impl KnownShard {
         ensures call { CalledToWrite E.BytesPartialEncoderTraits.own E.BytesPartialDecoderTraits
             source.old source.new result }
     {
+        let slices = given.slice.as_slice();
+        if let Some(index) = self.index_as_is(codecs) {
+            let bytes = ShardBytes { index, slices };
+            return append_bytes(alloc, source, self.location, self.end, bytes);
+        }
         match self.written_index(alloc, codecs, &self.pairs) {
-            Ok(index) => {
-                let bytes = ShardBytes {
-                    index,
-                    slices: given.slice,
-                };
+            Ok(made) => {
+                let index = made.as_slice();
+                let bytes = ShardBytes { index, slices };
                 append_bytes(alloc, source, self.location, self.end, bytes)
             }
             Err(error) => Err(error),
         }
+    }
+    /// The bytes of the index of the pairs that are known, where each subchunk is present and these
+    /// codecs store an index as it stands in memory.
+    fn index_as_is<X: ArrayToBytesCodecTraits>(&self, codecs: &X) -> Option<&[u8]>
+        requires { index_fits (X.meaning codecs.now) (known_shape self.now) ≡ true }
+        ensures { IfSome result (λ index. IsIndexWritten (X.meaning codecs.now)
+            (X.is_function codecs.now) (known_shape self.now) (pairs_in self.now) index.now) }
+    {
+        if !codecs.encodes_as_is() {
+            return None;
+        }
+        let index = self.pairs.full()?;
+        Some(index.as_bytes())
     }
 }

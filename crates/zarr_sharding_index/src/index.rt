@@ -1,7 +1,7 @@
 //! The index of a shard in memory.
 ghost use Rattle.std.specs.Prelude.{◌≡◌, ◌%◌, length};
 
-use crate::numbers::{count_pairs, pair_at, pair_bytes, put_pair};
+use crate::numbers::{count_pairs, move_back, move_on, pair_at, pair_bytes, put_pair};
 use std::alloc::{AllocError, Global};
 use zarr_codecs_arrays::ArrayBytes;
 use zarr_codecs_traits::ByteRange;
@@ -16,7 +16,8 @@ pub struct ShardIndex {
 }
 
 impl ShardIndex {
-    ghost use Rattle.std.specs.Prelude.{◌≡◌, ◌∷◌, ◌++◌, ◌<◌, ◌*◌, ◌^◌, List, [], length, get_or, slice_set, replicate, Some, IfOk, OnOk, OnErr};
+    ghost use Rattle.std.specs.Prelude.{◌≡◌, ◌∷◌, ◌++◌, ◌<◌, ◌≤◌, ◌*◌, ◌^◌, List, [], length, get_or, slice_set, replicate, Some, IfOk, OnOk, OnErr};
+    ghost use Rattle.std.specs.List.{insert, remove};
     ghost use Rattle.zarr_codecs_arrays.specs.Views.{payload_of};
     ghost use Rattle.zarr_codecs_meaning.specs.Decoding.{pairs_of_cells};
     ghost use Rattle.zarr_codecs_meaning.specs.Encoding.{absent_pair, pair_cells};
@@ -70,6 +71,15 @@ impl ShardIndex {
     {
         let _known = count_pairs(self.bytes.as_slice());
         self.bytes
+    }
+
+    /// The bytes of the offsets and lengths, as `into_bytes` gives them.
+    pub fn as_bytes(&self) -> &[u8]
+        ensures { AreStoredAsIs (pairs_of self.now) result.now }
+    {
+        let bytes = self.bytes.as_slice();
+        let _known = count_pairs(bytes);
+        bytes
     }
 
     /// The index that these bytes are, sixteen for each subchunk, as `into_bytes` gives them.
@@ -131,5 +141,34 @@ impl ShardIndex {
     {
         let bytes = pair_bytes(pair.offset, pair.length);
         self.bytes.extend_from_slice(&bytes)
+    }
+    /// Adds the pair of one subchunk more in front of the one with this number, or behind all. An
+    /// `Err` leaves the index as it was.
+    pub fn insert(&mut self, n: usize, pair: ByteRange) -> Result<(), AllocError>
+        requires { n ≤ length (pairs_of self.old) }
+        ensures ok { OnOk result
+            (pairs_of self.new ≡ insert (pairs_of self.old) n (pair_of pair)) }
+        ensures err { OnErr result (pairs_of self.new ≡ pairs_of self.old) }
+    {
+        self.push(pair)?;
+        move_on(self.bytes.as_mut_slice(), n);
+        self.put(n, pair);
+        Ok(())
+    }
+
+    /// Takes away the pair of the subchunk with this number.
+    pub fn remove(&mut self, n: usize)
+        requires { n < length (pairs_of self.old) }
+        ensures { pairs_of self.new ≡ remove (pairs_of self.old) n }
+    {
+        let left = move_back(self.bytes.as_mut_slice(), n);
+        self.bytes.truncate(left);
+    }
+
+    /// Gives back the memory that the index doesn't use.
+    pub fn shrink_to_fit(&mut self)
+        ensures { pairs_of self.new ≡ pairs_of self.old }
+    {
+        self.bytes.shrink_to_fit();
     }
 }

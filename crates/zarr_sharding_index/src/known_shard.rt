@@ -248,7 +248,8 @@ impl KnownShard {
             }
         } else {
             match self.written_index(alloc, codecs, &pairs) {
-                Ok(index) => {
+                Ok(made) => {
+                    let (index, slices) = (made.as_slice(), slices.as_slice());
                     let bytes = ShardBytes { index, slices };
                     self.append(alloc, source, pairs, bytes)
                 }
@@ -265,23 +266,23 @@ impl KnownShard {
         alloc: Global,
         source: &mut E,
         pairs: PresentPairs,
-        bytes: ShardBytes,
+        bytes: ShardBytes<'_>,
     ) -> Result<(), CodecError>
-        requires room { end_of self.old + length bytes.slices.items < 2 ^ 63 }
+        requires room { end_of self.old + length bytes.slices.now < 2 ^ 63 }
         requires many { length (all_pairs pairs) ≡ length (pairs_in self.old) }
         ensures pairs { OnOk result (pairs_in self.new ≡ all_pairs pairs) }
         ensures end { OnOk result (end_of self.new
-            ≡ end_of self.old + length bytes.slices.items) }
+            ≡ end_of self.old + length bytes.entry.slices.now) }
         ensures ok { IsTrue (E.is_honest source.old) → OnOk result
             (E.contents source.new ≡ Some (with_slices (known_location self.old)
-            (end_of self.old) bytes.index.items bytes.slices.items
+            (end_of self.old) bytes.entry.index.now bytes.entry.slices.now
             (unwrap_or (E.contents source.old) []))) }
         ensures same { OnErr result ((pairs_in self.new ≡ pairs_in self.old)
             × (end_of self.new ≡ end_of self.old)) }
         ensures laid { IsLaidAlike self.old self.new }
         ensures cause { IsTrue (E.is_honest source.old) → AppendRefused
-            (shard_length (known_location self.old) (length bytes.index.items)
-            (end_of self.old + length bytes.slices.items)) result }
+            (shard_length (known_location self.old) (length bytes.entry.index.now)
+            (end_of self.old + length bytes.entry.slices.now)) result }
         ensures call { CalledToWrite E.BytesPartialEncoderTraits.own E.BytesPartialDecoderTraits
             source.old source.new result }
     {

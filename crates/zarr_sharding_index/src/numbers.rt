@@ -1,5 +1,6 @@
 //! Pairs of an index as numbers of eight bytes, little endian.
-ghost use Rattle.std.specs.Prelude.{◌≡◌, ◌+◌, ◌*◌, ◌^◌, ◌≤◌, ◌<◌, ◌%◌, ◌++◌, get_or, length, slice_set, Some};
+ghost use Rattle.std.specs.Prelude.{◌≡◌, ◌+◌, ◌-◌, ◌*◌, ◌^◌, ◌≤◌, ◌<◌, ◌%◌, ◌++◌, drop, get_or, length, slice_set, take, Some};
+ghost use Rattle.std.specs.List.{remove};
 ghost use Rattle.zarr_codecs_meaning.specs.Encoding.{absent_pair, pair_cells};
 ghost use Rattle.zarr_codecs_meaning.specs.Numbers.{number, word};
 ghost use Rattle.zarr_codecs_meaning.specs.Payloads.{cells_in, fixed};
@@ -44,6 +45,35 @@ pub(crate) fn put_pair(bytes: &mut [u8], n: usize, pair: ByteRange)
     let start = pair_start(bytes, n);
     let new = pair_bytes(pair.offset, pair.length);
     bytes[start..start + 16].copy_from_slice(&new);
+}
+
+/// Copies the pairs from a number on, but for the last one, to where the next ones stand.
+pub(crate) fn move_on(bytes: &mut [u8], n: usize)
+    requires below { n < length (pairs_of_bytes bytes.old) }
+    requires whole { length bytes.old % 16 ≡ 0 }
+    ensures pairs { pairs_of_bytes bytes.new ≡ take (n + 1) (pairs_of_bytes bytes.old)
+        ++ take (length (pairs_of_bytes bytes.old) - (n + 1)) (drop n (pairs_of_bytes bytes.old)) }
+    ensures long { length bytes.new ≡ length bytes.old }
+{
+    let start = pair_start(bytes, n);
+    let end = bytes.len() - 16;
+    bytes.copy_within(start..end, start + 16);
+}
+
+/// Copies the pairs behind the one with a number to where the ones before them stand. Gives how
+/// many bytes are left, without those of the last pair.
+pub(crate) fn move_back(bytes: &mut [u8], n: usize) -> usize
+    requires below { n < length (pairs_of_bytes bytes.old) }
+    requires whole { length bytes.old % 16 ≡ 0 }
+    ensures pairs { pairs_of_bytes (take result bytes.new)
+        ≡ remove (pairs_of_bytes bytes.old) n }
+    ensures left { result + 16 ≡ length bytes.old }
+    ensures long { length bytes.new ≡ length bytes.old }
+{
+    let start = pair_start(bytes, n);
+    let size = bytes.len();
+    bytes.copy_within(start + 16..size, start);
+    size - 16
 }
 
 /// Where the pair with a number begins.

@@ -1,6 +1,9 @@
 //! An index of a shard of which the pairs of present subchunks are kept.
-ghost use Rattle.std.specs.Prelude.{◌≡◌, true};
-ghost use Rattle.zarr_sharding_index.specs.Listed.{are_present};
+ghost use Rattle.std.specs.Prelude.{◌≡◌, List, length, get_or, map, nat_lt, true, IfOk};
+ghost use Rattle.std.specs.List.{list_all};
+ghost use Rattle.zarr_codecs_meaning.specs.Encoding.{absent_pair};
+ghost use Rattle.zarr_sharding_index.specs.Listed.{are_present, numbered, present_numbers};
+ghost use Rattle.zarr_sharding_index.specs.Views.{pairs_of};
 
 use crate::index::ShardIndex;
 use crate::pair::{ABSENT, PresentPair, is_absent};
@@ -8,22 +11,26 @@ use std::alloc::{AllocError, Global};
 use zarr_codecs_traits::ByteRange;
 
 /// The index of a shard, of which the pairs of present subchunks alone are kept, sorted by the
-/// numbers of these. A contract sees it as the list of all pairs.
+/// numbers of these: the numbers, and the pairs as the full index has them. A contract sees it as
+/// the list of all pairs.
 #[derive(Debug, Drop)]
 pub struct PresentPairs {
     count: usize,
-    present: Vec<PresentPair>,
-    ghost listed: { are_present 0 count present.items ≡ true },
+    numbers: Vec<usize>,
+    ranges: ShardIndex,
+    ghost listed: { are_present 0 count (numbered numbers.items (pairs_of ranges)) ≡ true },
+    ghost alike: { length numbers.items ≡ length (pairs_of ranges) },
 }
 
 impl PresentPairs {
-    ghost use Rattle.std.specs.Prelude.{◌≡◌, ◌<◌, List, length, get_or, slice_set, replicate, false, true, IfErr, IfOk, OnErr, OnOk};
+    ghost use Rattle.std.specs.Prelude.{◌≡◌, ◌<◌, List, length, get_or, slice_set, replicate, false, true, IfErr, IfOk, IfSome, OnErr, OnOk};
     ghost use Rattle.std.specs.List.{list_all};
     ghost use Rattle.zarr_codecs_meaning.specs.Decoding.{is_absent};
     ghost use Rattle.zarr_codecs_meaning.specs.Encoding.{absent_pair};
     ghost use Rattle.zarr_sharding_index.specs.Listed.{IsGapFor, IsListedAt, are_present, count_present, full_list};
     ghost use Rattle.zarr_sharding_index.specs.Present.{all_pairs, kept_pairs};
     ghost use Rattle.zarr_sharding_index.specs.Views.{pair_of, pairs_of};
+    ghost use Rattle.zarr_sharding_index.specs.declared.pair.PresentPair.{PresentPair};
 
     /// The index of so many subchunks, each of which is absent.
     pub fn all_absent(alloc: Global, count: usize) -> PresentPairs
@@ -31,36 +38,56 @@ impl PresentPairs {
     {
         PresentPairs {
             count,
-            present: Vec::new(alloc),
+            numbers: Vec::new(alloc),
+            ranges: ShardIndex::new(alloc),
         }
     }
 
     /// The index of the same pairs.
-    pub fn from_index(alloc: Global, index: &ShardIndex) -> Result<PresentPairs, AllocError>
-        ensures { IfOk result (λ made. all_pairs made ≡ pairs_of index.now) }
+    pub fn from_index(alloc: Global, index: ShardIndex) -> Result<PresentPairs, AllocError>
+        ensures { IfOk result (λ made. all_pairs made ≡ pairs_of index) }
     {
         let count = index.len();
-        let mut present = Vec::new(alloc);
-        for number in 0..count {
-            let range = index.get(number);
-            if !is_absent(range) {
-                present.push(PresentPair { number, range })?;
-            }
+        let numbers = present_numbers(alloc, &index)?;
+        if numbers.len() == count {
+            return Ok(PresentPairs {
+                count,
+                numbers,
+                ranges: index,
+            });
         }
-        present.shrink_to_fit();
-        Ok(PresentPairs { count, present })
+        let ranges = pairs_at(alloc, &index, numbers.as_slice())?;
+        Ok(PresentPairs {
+            count,
+            numbers,
+            ranges,
+        })
     }
 
     /// The full list of the pairs.
     pub fn to_index(&self, alloc: Global) -> Result<ShardIndex, AllocError>
         ensures { IfOk result (λ made. pairs_of made ≡ all_pairs self.now) }
     {
+        if let Some(index) = self.full() {
+            return index.try_clone(alloc);
+        }
         let mut index = ShardIndex::all_absent(alloc, self.count)?;
-        let present = self.present.as_slice();
-        for pair in present {
+        for k in 0..self.count_present() {
+            let pair = self.nth(k);
             index.put(pair.number, pair.range);
         }
         Ok(index)
+    }
+
+    /// The full list of the pairs, where each subchunk is present.
+    pub fn full(&self) -> Option<&ShardIndex>
+        ensures { IfSome result (λ index. pairs_of index.now ≡ all_pairs self.now) }
+    {
+        if self.count_present() == self.count {
+            Some(&self.ranges)
+        } else {
+            None
+        }
     }
 
     /// An equal index. `Err` only where an allocation failed.
@@ -69,7 +96,8 @@ impl PresentPairs {
     {
         Ok(PresentPairs {
             count: self.count,
-            present: Vec::from_slice(alloc, self.present.as_slice())?,
+            numbers: Vec::from_slice(alloc, self.numbers.as_slice())?,
+            ranges: self.ranges.try_clone(alloc)?,
         })
     }
 
@@ -82,24 +110,32 @@ impl PresentPairs {
 
     /// How many of them are present.
     pub fn count_present(&self) -> usize
-        ensures { result ≡ count_present (all_pairs self.now) }
+        ensures count { result ≡ count_present (all_pairs self.now) }
+        ensures kept { result ≡ length (kept_pairs self.now) }
+        ensures present { are_present 0 (length (all_pairs self.now)) (kept_pairs self.now)
+            ≡ true }
+        ensures all { full_list (length (all_pairs self.now)) (kept_pairs self.now)
+            ≡ all_pairs self.now }
     {
-        self.present.as_slice().len()
+        self.numbers.len()
+    }
+
+    /// The pair of a present subchunk, by its place among those.
+    pub fn nth(&self, k: usize) -> PresentPair
+        requires { k < length (kept_pairs self.now) }
+        ensures { (other : PresentPair) → result ≡ get_or (kept_pairs self.now) k other }
+    {
+        PresentPair {
+            number: self.numbers[k],
+            range: self.ranges.get(k),
+        }
     }
 
     /// Whether none of them is present.
     pub fn are_absent(&self) -> bool
         ensures { result ≡ list_all is_absent (all_pairs self.now) }
     {
-        self.present.as_slice().is_empty()
-    }
-
-    /// The pairs of the present subchunks, by the numbers of these.
-    pub fn present(&self) -> &[PresentPair]
-        ensures all { full_list (length (all_pairs self.now)) result.now ≡ all_pairs self.now }
-        ensures present { are_present 0 (length (all_pairs self.now)) result.now ≡ true }
-    {
-        self.present.as_slice()
+        self.numbers.is_empty()
     }
 
     /// The pair of the subchunk with this number.
@@ -108,7 +144,7 @@ impl PresentPairs {
         ensures { pair_of result ≡ get_or (all_pairs self.now) n absent_pair }
     {
         match self.place_of(n) {
-            Ok(at) => self.present[at].range,
+            Ok(at) => self.ranges.get(at),
             Err(_) => ABSENT,
         }
     }
@@ -124,16 +160,37 @@ impl PresentPairs {
             self.remove(n);
             return Ok(());
         }
-        let new = PresentPair {
-            number: n,
-            range: pair,
-        };
         match self.place_of(n) {
             Ok(at) => {
-                self.present[at] = new;
+                self.ranges.put(at, pair);
                 Ok(())
             }
-            Err(at) => Ok(self.present.insert(at, new)?),
+            Err(at) => {
+                let new = PresentPair {
+                    number: n,
+                    range: pair,
+                };
+                self.insert(at, new)
+            }
+        }
+    }
+
+    /// Keeps one pair more, at its place among the others. An `Err` leaves the index as it was.
+    fn insert(&mut self, at: usize, new: PresentPair) -> Result<(), AllocError>
+        requires gap { IsGapFor (kept_pairs self.old) new.number at }
+        requires below { new.number < length (all_pairs self.old) }
+        requires present { is_absent (pair_of new.range) ≡ false }
+        ensures ok { OnOk result (all_pairs self.new
+            ≡ slice_set (all_pairs self.old) new.number (pair_of new.range)) }
+        ensures err { OnErr result (all_pairs self.new ≡ all_pairs self.old) }
+    {
+        self.numbers.insert(at, new.number)?;
+        match self.ranges.insert(at, new.range) {
+            Ok(()) => Ok(()),
+            Err(error) => {
+                self.numbers.remove(at);
+                Err(error)
+            }
         }
     }
 
@@ -146,12 +203,8 @@ impl PresentPairs {
             self.remove(n);
             return;
         }
-        let new = PresentPair {
-            number: n,
-            range: pair,
-        };
         match self.place_of(n) {
-            Ok(at) => self.present[at] = new,
+            Ok(at) => self.ranges.put(at, pair),
             Err(_) => {}
         }
     }
@@ -162,7 +215,8 @@ impl PresentPairs {
     {
         match self.place_of(n) {
             Ok(at) => {
-                self.present.remove(at);
+                self.numbers.remove(at);
+                self.ranges.remove(at);
             }
             Err(_) => {}
         }
@@ -173,8 +227,34 @@ impl PresentPairs {
         ensures found { IfOk result (IsListedAt (kept_pairs self.now) n) }
         ensures absent { IfErr result (IsGapFor (kept_pairs self.now) n) }
     {
-        self.present
-            .as_slice()
-            .binary_search_by_key(&n, |pair| pair.number)
+        self.numbers.as_slice().binary_search(&n)
     }
+}
+
+/// The numbers of the subchunks of an index that are present.
+fn present_numbers(alloc: Global, index: &ShardIndex) -> Result<Vec<usize>, AllocError>
+    ensures { IfOk result (λ made. made.items ≡ present_numbers (pairs_of index.now)) }
+{
+    let mut numbers = Vec::new(alloc);
+    for number in 0..index.len() {
+        if !is_absent(index.get(number)) {
+            numbers.push(number)?;
+        }
+    }
+    numbers.shrink_to_fit();
+    Ok(numbers)
+}
+
+/// The pairs of the subchunks of an index with these numbers.
+fn pairs_at(alloc: Global, index: &ShardIndex, numbers: &[usize]) -> Result<ShardIndex, AllocError>
+    requires { list_all (λ n. nat_lt n (length (pairs_of index.now))) numbers.now ≡ true }
+    ensures { IfOk result (λ made. pairs_of made
+        ≡ map (λ n. get_or (pairs_of index.now) n absent_pair) numbers.now) }
+{
+    let mut pairs = ShardIndex::new(alloc);
+    for number in numbers {
+        pairs.push(index.get(*number))?;
+    }
+    pairs.shrink_to_fit();
+    Ok(pairs)
 }

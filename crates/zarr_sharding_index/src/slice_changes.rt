@@ -26,10 +26,10 @@ pub struct SliceChange {
 }
 
 /// The bytes of an index, and slices in a row.
-#[derive(Drop)]
-pub(crate) struct ShardBytes {
-    pub index: Vec<u8>,
-    pub slices: Vec<u8>,
+#[derive(Clone, Copy)]
+pub(crate) struct ShardBytes<'a> {
+    pub index: &'a [u8],
+    pub slices: &'a [u8],
 }
 
 /// The slices of changes in a row.
@@ -125,37 +125,37 @@ pub(crate) fn append_bytes<E: BytesPartialEncoderTraits>(
     source: &mut E,
     location: ShardingIndexLocation,
     end: u64,
-    bytes: ShardBytes,
+    bytes: ShardBytes<'_>,
 ) -> Result<(), CodecError>
-    requires { end + length bytes.slices.items < 2 ^ 63 }
+    requires { end + length bytes.slices.now < 2 ^ 63 }
     ensures ok { IsTrue (E.is_honest source.old) → OnOk result
         (E.contents source.new ≡ Some (with_slices (location_of location) end
-        bytes.index.items bytes.slices.items (unwrap_or (E.contents source.old) []))) }
+        bytes.entry.index.now bytes.entry.slices.now (unwrap_or (E.contents source.old) []))) }
     ensures cause { IsTrue (E.is_honest source.old) → AppendRefused
-        (shard_length (location_of location) (length bytes.index.items)
-        (end + length bytes.slices.items)) result }
+        (shard_length (location_of location) (length bytes.entry.index.now)
+        (end + length bytes.entry.slices.now)) result }
     ensures call { CalledToWrite E.BytesPartialEncoderTraits.own E.BytesPartialDecoderTraits
         source.old source.new result }
 {
-    source.partial_encode(alloc, &slice_patches(location, end, &bytes))
+    source.partial_encode(alloc, &slice_patches(location, end, bytes))
 }
 
 /// The ranges to be written into a shard whose data part ends at `end`, so that slices are appended
 /// to it, and its index is replaced.
-fn slice_patches(
+fn slice_patches<'a>(
     location: ShardingIndexLocation,
     end: u64,
-    bytes: &ShardBytes,
-) -> [ValuePatch<'_>; 2]
-    requires { end + length bytes.now.slices.items < 2 ^ 63 }
+    bytes: ShardBytes<'a>,
+) -> [ValuePatch<'a>; 2]
+    requires { end + length bytes.slices.now < 2 ^ 63 }
     ensures patched { (contents : Option (List ℕ)) → patched_contents contents (patches_of result)
-        ≡ with_slices (location_of location) end bytes.now.index.items bytes.now.slices.items
+        ≡ with_slices (location_of location) end bytes.entry.index.now bytes.entry.slices.now
         (unwrap_or contents []) }
     ensures far { IsTrue (any_too_far (patches_of result)) → 2 ^ 63
-        ≤ shard_length (location_of location) (length bytes.now.index.items)
-        (end + length bytes.now.slices.items) }
+        ≤ shard_length (location_of location) (length bytes.entry.index.now)
+        (end + length bytes.entry.slices.now) }
 {
-    let (index, slices) = (bytes.index.as_slice(), bytes.slices.as_slice());
+    let (index, slices) = (bytes.index, bytes.slices);
     let after = end + slices.len() as u64;
     match location {
         ShardingIndexLocation::Start => [

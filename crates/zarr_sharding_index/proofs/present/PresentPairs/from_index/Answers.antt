@@ -1,44 +1,52 @@
-use Rattle.std.proofs.Common.{◌+◌, ◌∙◌, ◌≡◌, List, ap, arith, false, refl, subst, sym}
-use Rattle.zarr_codecs_meaning.specs.Decoding.{is_absent}
-use Rattle.zarr_sharding_index.specs.Listed.{are_present, full_list}
-use Rattle.zarr_sharding_index.specs.Views.{pair_of, pairs_of}
-use Rattle.zarr_sharding_index.specs.declared.pair.PresentPair.{PresentPair}
-use Rattle.zarr_sharding_index.proofs.Listed.{AreListed, ListsFirst, are_told, lists_absent, lists_all, lists_none, lists_present}
+use Rattle.std.proofs.Common.{◌≡◌, ◌∙◌, ap, arith, length, map, sym}
+use Rattle.std.specs.Prelude.{nat_lt}
+use Rattle.std.specs.List.{list_all}
+use Rattle.zarr_sharding_index.specs.Listed.{present_numbers}
+use Rattle.zarr_sharding_index.specs.Views.{pairs_of}
+use Rattle.zarr_sharding_index.proofs.Kept.{made_of}
+use Rattle.zarr_sharding_index.proofs.Numbered.{all_present, are_below, at, there}
 use Rattle.zarr_sharding_index.proofs.present.PresentPairs.from_index.Goals as goal
-use Rattle.zarr_sharding_index.proofs.present.PresentPairs.from_index.Goals.{else-not-is_absent, then-not-is_absent+in_ok-push}
 
-pub loop-number-init : goal.loop-number-init
-loop-number-init c = subst (λ (ps : List PresentPair). ListsFirst 0 (pairs_of c.args.index.now) ps) (sym c.new-present.ensures.items) (lists_none (pairs_of c.args.index.now))
-
-pub loop-number-preserved : goal.loop-number-preserved
-loop-number-preserved c =
-    let n = c.loop-number.number in
-    let pairs = pairs_of c.args.index.now in
-    let here = c.get-range.ensures in
-    let told = c.is_absent.ensures in
-    elim c.if-not-is_absent.branch [
-      | then-not-is_absent+in_ok-push w ↦
-          let t = w.if-not-is_absent.true in
-          let there : is_absent (pair_of c.get-range.result) ≡ false = grind (arith, told, t) in
-          rw w.present-is (subst (λ (ps : List PresentPair). ListsFirst (n + 1) pairs ps) (sym w.in_ok-push.ensures.items)
-          (lists_present n pairs c.loop-number.present.items (record { number = n; range = c.get-range.result }) c.loop-number.invariant refl here there))
-      | else-not-is_absent w ↦
-          let f = w.if-not-is_absent.false in
-          let gone = ap is_absent (sym here) ∙ grind (arith, told, f) in
-          rw w.present-is (lists_absent n pairs c.loop-number.present.items c.loop-number.invariant gone)
-    ]
-
+-- each subchunk is present
 pub invariant_of-result : goal.invariant_of-result
 invariant_of-result c =
-    let count = c.len-count.result in
-    let is : c.loop-number.number ≡ count = omega (arith, c.loop-number-test.false, c.loop-number.auto.number-end) in
-    let all = subst (λ n. AreListed 0 n c.loop-number.present.items) is c.loop-number.invariant.are in
-    record { listed = ap (are_present 0 count) c.shrink_to_fit.ensures.items ∙ are_told 0 count c.loop-number.present.items all }
+    let pairs = pairs_of c.args.index in
+    let is = c.in_ok-numbers.ensures in
+    let ok = c.in_ok-numbers.numbers.ok in
+    let len = c.len.ensures in
+    let test = c.if-len-count.true in
+    let count = c.len-count.ensures in
+    let long = ap length is in
+    let whole : length (present_numbers pairs) ≡ length pairs = omega (arith, ok, len, test, count, long) in
+    let made = made_of pairs c.len-count.result c.in_ok-numbers.numbers.items pairs count is (sym (all_present pairs whole)) in
+    record { listed = made.0.listed; alike = made.0.alike }
+
+pub returns-then-len-count : goal.returns-then-len-count
+returns-then-len-count c =
+    let pairs = pairs_of c.args.index in
+    let is = c.in_ok-numbers.ensures in
+    let ok = c.in_ok-numbers.numbers.ok in
+    let len = c.len.ensures in
+    let test = c.if-len-count.true in
+    let count = c.len-count.ensures in
+    let long = ap length is in
+    let whole : length (present_numbers pairs) ≡ length pairs = omega (arith, ok, len, test, count, long) in
+    (made_of pairs c.len-count.result c.in_ok-numbers.numbers.items pairs count is (sym (all_present pairs whole))).1
+
+pub pairs_at-requires : goal.pairs_at-requires
+pairs_at-requires c =
+    let pairs = pairs_of c.args.index in
+    ap (list_all (λ n. nat_lt n (length pairs))) (c.as_slice.ensures.value ∙ c.in_ok-numbers.ensures) ∙ are_below (there pairs) 0 (length pairs) (length pairs) (omega arith)
+
+pub invariant_of-result-2 : goal.invariant_of-result-2
+invariant_of-result-2 c =
+    let pairs = pairs_of c.args.index in
+    let is = c.in_ok-numbers.ensures in
+    let made = made_of pairs c.len-count.result c.in_ok-numbers.numbers.items (pairs_of c.in_ok-ranges.ranges) c.len-count.ensures is (c.in_ok-ranges.ensures ∙ ap (map (at pairs)) (c.as_slice.ensures.value ∙ is)) in
+    record { listed = made.0.listed; alike = made.0.alike }
 
 pub returns : goal.returns
 returns c =
-    let count = c.len-count.result in
-    let pairs = pairs_of c.args.index.now in
-    let is : c.loop-number.number ≡ count = omega (arith, c.loop-number-test.false, c.loop-number.auto.number-end) in
-    let all = subst (λ n. ListsFirst n pairs c.loop-number.present.items) is c.loop-number.invariant in
-    ap (full_list count) c.shrink_to_fit.ensures.items ∙ lists_all count pairs c.loop-number.present.items c.len-count.ensures all
+    let pairs = pairs_of c.args.index in
+    let is = c.in_ok-numbers.ensures in
+    (made_of pairs c.len-count.result c.in_ok-numbers.numbers.items (pairs_of c.in_ok-ranges.ranges) c.len-count.ensures is (c.in_ok-ranges.ensures ∙ ap (map (at pairs)) (c.as_slice.ensures.value ∙ is))).1
