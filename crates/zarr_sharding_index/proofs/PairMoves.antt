@@ -46,9 +46,9 @@ back_pairs n bytes low =
 -- ---- moves
 
 -- the pairs from a number on, but for the last, stand one place further
-pub moved_on : (n start end dest : ℕ) (bytes : List ℕ) → start ≡ 16 * n → end + 16 ≡ length bytes → dest ≡ start + 16 → n < length (pairs_of_bytes bytes) → length bytes % 16 ≡ 0
+pub moved_up : (n start end dest : ℕ) (bytes : List ℕ) → start ≡ 16 * n → end + 16 ≡ length bytes → dest ≡ start + 16 → n < length (pairs_of_bytes bytes) → length bytes % 16 ≡ 0
     → pairs_of_bytes (copy_within bytes start end dest) ≡ take (n + 1) (pairs_of_bytes bytes) ++ take (length (pairs_of_bytes bytes) - (n + 1)) (drop n (pairs_of_bytes bytes))
-moved_on n start end dest bytes is ends to below whole =
+moved_up n start end dest bytes is ends to below whole =
     let count = length-pairs_of_bytes bytes in
     let m = length (pairs_of_bytes bytes) - (n + 1) in
     let given = drop start bytes in
@@ -73,9 +73,9 @@ moved_on n start end dest bytes is ends to below whole =
     ∙ ap (λ (ps : List Pair). take (n + 1) (pairs_of_bytes bytes) ++ ps) (front_pairs m tail (omega (arith, tail_long, below, whole, count)) ∙ ap (take m) (back_pairs n bytes (omega (arith, low))))))
 
 -- those behind a number stand one place before
-pub moved_back : (n start from size left : ℕ) (bytes : List ℕ) → start ≡ 16 * n → from ≡ start + 16 → size ≡ length bytes → left + 16 ≡ size → n < length (pairs_of_bytes bytes) → length bytes % 16 ≡ 0
+pub moved_down : (n start from size left : ℕ) (bytes : List ℕ) → start ≡ 16 * n → from ≡ start + 16 → size ≡ length bytes → left + 16 ≡ size → n < length (pairs_of_bytes bytes) → length bytes % 16 ≡ 0
     → pairs_of_bytes (take left (copy_within bytes from size start)) ≡ remove (pairs_of_bytes bytes) n
-moved_back n start from size left bytes is begins all ends below whole =
+moved_down n start from size left bytes is begins all ends below whole =
     let count = length-pairs_of_bytes bytes in
     let given = drop from bytes in
     let long = length-drop from bytes in

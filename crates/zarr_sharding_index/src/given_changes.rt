@@ -15,12 +15,14 @@ struct GivenSlice {
 }
 
 impl KnownShard {
-    ghost use Rattle.std.specs.Prelude.{◌≡◌, ◌+◌, ◌<◌, ◌^◌, length, false, true, IfSome, OnOk, IsTrue};
+    ghost use Rattle.std.specs.Prelude.{◌≡◌, ◌≢◌, ◌⊎◌, ◌+◌, ◌<◌, ◌^◌, length, false, true, IfNone, IfSome, OnOk, IsTrue};
     ghost use Rattle.std.specs.List.{list_all};
     ghost use Rattle.zarr_codecs_meaning.specs.Encoding.{index_size};
     ghost use Rattle.zarr_codecs_meaning.specs.Standing.{index_layout};
     ghost use Rattle.zarr_sharding_index.specs.Stored.{IsIndexWritten, index_fits};
+    ghost use Rattle.zarr_codecs_traits.specs.Capabilities.{encodes_as_is};
     ghost use Rattle.zarr_sharding_index.specs.Calls.{CalledToWrite, KnownAfter, change_given};
+    ghost use Rattle.zarr_sharding_index.specs.Listed.{count_present};
     ghost use Rattle.zarr_sharding_index.specs.Held.{are_absent, held_as};
     ghost use Rattle.zarr_sharding_index.specs.Known.{end_of, pairs_in, known_location, known_shape, known_length, held_by, known_index};
     ghost use Rattle.zarr_sharding_index.specs.SliceChanges.{changes_of, is_below};
@@ -142,12 +144,15 @@ impl KnownShard {
             Err(error) => Err(error),
         }
     }
+
     /// The bytes of the index of the pairs that are known, where each subchunk is present and these
     /// codecs store an index as it stands in memory.
     fn index_as_is<X: ArrayToBytesCodecTraits>(&self, codecs: &X) -> Option<&[u8]>
         requires { index_fits (X.meaning codecs.now) (known_shape self.now) ≡ true }
-        ensures { IfSome result (λ index. IsIndexWritten (X.meaning codecs.now)
+        ensures lent { IfSome result (λ index. IsIndexWritten (X.meaning codecs.now)
             (X.is_function codecs.now) (known_shape self.now) (pairs_in self.now) index.now) }
+        ensures made { IfNone result ((encodes_as_is (X.meaning codecs.now) ≡ false)
+            ⊎ (count_present (pairs_in self.now) ≢ length (pairs_in self.now))) }
     {
         if !codecs.encodes_as_is() {
             return None;

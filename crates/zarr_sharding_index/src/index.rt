@@ -1,7 +1,7 @@
 //! The index of a shard in memory.
 ghost use Rattle.std.specs.Prelude.{◌≡◌, ◌%◌, length};
 
-use crate::numbers::{count_pairs, move_back, move_on, pair_at, pair_bytes, put_pair};
+use crate::numbers::{count_pairs, move_down, move_up, pair_at, pair_bytes, put_pair};
 use std::alloc::{AllocError, Global};
 use zarr_codecs_arrays::ArrayBytes;
 use zarr_codecs_traits::ByteRange;
@@ -142,8 +142,9 @@ impl ShardIndex {
         let bytes = pair_bytes(pair.offset, pair.length);
         self.bytes.extend_from_slice(&bytes)
     }
-    /// Adds the pair of one subchunk more in front of the one with this number, or behind all. An
-    /// `Err` leaves the index as it was.
+
+    /// Inserts a pair at this number, at most `len`; those from it on move up by one. An `Err`
+    /// leaves the index as it was.
     pub fn insert(&mut self, n: usize, pair: ByteRange) -> Result<(), AllocError>
         requires { n ≤ length (pairs_of self.old) }
         ensures ok { OnOk result
@@ -151,17 +152,17 @@ impl ShardIndex {
         ensures err { OnErr result (pairs_of self.new ≡ pairs_of self.old) }
     {
         self.push(pair)?;
-        move_on(self.bytes.as_mut_slice(), n);
+        move_up(self.bytes.as_mut_slice(), n);
         self.put(n, pair);
         Ok(())
     }
 
-    /// Takes away the pair of the subchunk with this number.
+    /// Removes the pair with this number, below `len`; those behind it move down by one.
     pub fn remove(&mut self, n: usize)
         requires { n < length (pairs_of self.old) }
         ensures { pairs_of self.new ≡ remove (pairs_of self.old) n }
     {
-        let left = move_back(self.bytes.as_mut_slice(), n);
+        let left = move_down(self.bytes.as_mut_slice(), n);
         self.bytes.truncate(left);
     }
 

@@ -47,8 +47,8 @@ pub(crate) fn put_pair(bytes: &mut [u8], n: usize, pair: ByteRange)
     bytes[start..start + 16].copy_from_slice(&new);
 }
 
-/// Copies the pairs from a number on, but for the last one, to where the next ones stand.
-pub(crate) fn move_on(bytes: &mut [u8], n: usize)
+/// Moves the pairs from a number on up by one place, over the last one.
+pub(crate) fn move_up(bytes: &mut [u8], n: usize)
     requires below { n < length (pairs_of_bytes bytes.old) }
     requires whole { length bytes.old % 16 ≡ 0 }
     ensures pairs { pairs_of_bytes bytes.new ≡ take (n + 1) (pairs_of_bytes bytes.old)
@@ -60,9 +60,9 @@ pub(crate) fn move_on(bytes: &mut [u8], n: usize)
     bytes.copy_within(start..end, start + 16);
 }
 
-/// Copies the pairs behind the one with a number to where the ones before them stand. Gives how
-/// many bytes are left, without those of the last pair.
-pub(crate) fn move_back(bytes: &mut [u8], n: usize) -> usize
+/// Moves the pairs behind a number down by one place, over the one with it. Gives how many bytes
+/// they have then.
+pub(crate) fn move_down(bytes: &mut [u8], n: usize) -> usize
     requires below { n < length (pairs_of_bytes bytes.old) }
     requires whole { length bytes.old % 16 ≡ 0 }
     ensures pairs { pairs_of_bytes (take result bytes.new)

@@ -23,7 +23,7 @@ pub struct PresentPairs {
 }
 
 impl PresentPairs {
-    ghost use Rattle.std.specs.Prelude.{◌≡◌, ◌<◌, List, length, get_or, slice_set, replicate, false, true, IfErr, IfOk, IfSome, OnErr, OnOk};
+    ghost use Rattle.std.specs.Prelude.{◌≡◌, ◌≢◌, ◌<◌, List, length, get_or, slice_set, replicate, false, true, IfErr, IfNone, IfOk, IfSome, OnErr, OnOk};
     ghost use Rattle.std.specs.List.{list_all};
     ghost use Rattle.zarr_codecs_meaning.specs.Decoding.{is_absent};
     ghost use Rattle.zarr_codecs_meaning.specs.Encoding.{absent_pair};
@@ -79,9 +79,11 @@ impl PresentPairs {
         Ok(index)
     }
 
-    /// The full list of the pairs, where each subchunk is present.
+    /// The full list of the pairs, lent where each subchunk is present: else `to_index` makes one.
     pub fn full(&self) -> Option<&ShardIndex>
-        ensures { IfSome result (λ index. pairs_of index.now ≡ all_pairs self.now) }
+        ensures lent { IfSome result (λ index. pairs_of index.now ≡ all_pairs self.now) }
+        ensures absent { IfNone result
+            (count_present (all_pairs self.now) ≢ length (all_pairs self.now)) }
     {
         if self.count_present() == self.count {
             Some(&self.ranges)
@@ -120,7 +122,8 @@ impl PresentPairs {
         self.numbers.len()
     }
 
-    /// The pair of a present subchunk, by its place among those.
+    /// The number and the pair of a present subchunk, by its place among the present ones, below
+    /// `count_present`.
     pub fn nth(&self, k: usize) -> PresentPair
         requires { k < length (kept_pairs self.now) }
         ensures { (other : PresentPair) → result ≡ get_or (kept_pairs self.now) k other }
@@ -175,7 +178,8 @@ impl PresentPairs {
         }
     }
 
-    /// Keeps one pair more, at its place among the others. An `Err` leaves the index as it was.
+    /// Keeps the pair of a subchunk that is absent, at its place among those that are kept. An
+    /// `Err` leaves the index as it was.
     fn insert(&mut self, at: usize, new: PresentPair) -> Result<(), AllocError>
         requires gap { IsGapFor (kept_pairs self.old) new.number at }
         requires below { new.number < length (all_pairs self.old) }
@@ -235,7 +239,7 @@ impl PresentPairs {
 fn present_numbers(alloc: Global, index: &ShardIndex) -> Result<Vec<usize>, AllocError>
     ensures { IfOk result (λ made. made.items ≡ present_numbers (pairs_of index.now)) }
 {
-    let mut numbers = Vec::new(alloc);
+    let mut numbers = Vec::with_capacity(alloc, index.len())?;
     for number in 0..index.len() {
         if !is_absent(index.get(number)) {
             numbers.push(number)?;

@@ -6,7 +6,7 @@ use Rattle.zarr_sharding_index.proofs.present.present_numbers.Goals as goal
 use Rattle.zarr_sharding_index.proofs.present.present_numbers.Goals.{else-not-is_absent, then-not-is_absent+in_ok-push}
 
 pub loop-number-init : goal.loop-number-init
-loop-number-init c = c.new-numbers.ensures.items
+loop-number-init c = c.in_ok-numbers.ensures.items
 
 pub loop-number-preserved : goal.loop-number-preserved
 loop-number-preserved c =
