@@ -9,7 +9,7 @@ use Rattle.zarr_codecs_packbits.specs.Views.{packbits_chain}
 use Rattle.zarr_codecs_packbits.specs.declared.codec.PackBitsCodec.{PackBitsCodec}
 use Rattle.zarr_codecs_packbits.specs.declared.kept.KeptBits.{KeptBits}
 use Rattle.zarr_codecs_meaning.specs.Numbers.{digits, number}
-use Rattle.zarr_codecs_meaning.specs.Types.{DataType, Component, components, bytes_in, cell_bytes, extended}
+use Rattle.zarr_codecs_meaning.specs.Types.{DataType, Component, components, bytes_in, cell_bytes, extended, unsigned}
 use Rattle.zarr_codecs_meaning.specs.Encoding.{element_bits, element_of_bits}
 use Rattle.zarr_codecs_meaning.specs.Fits.{bits_fit, bits_in, fits, kept_bits, last_kept}
 use Rattle.zarr_codecs_meaning.specs.Payloads.{fixed_cells}
@@ -51,6 +51,12 @@ pub record AreSingle (first : ℕ) (last : Option ℕ) (parts : List Component) 
   pub many : kept.count ≡ kept_bits first last part
   pub ends : last_kept last part + 1 ≡ kept.first + kept.count
   pub sign : part.sign ≡ sign_of kept.sign
+
+-- the lowest bit alone is kept, of elements without a sign
+pub record IsLowestBit (kept : KeptBits) : Type 0 where
+  pub lowest : kept.first ≡ 0
+  pub single : kept.count ≡ 1
+  pub plain : sign_of kept.sign ≡ unsigned
 
 -- the byte of an element of one byte whose kept bits write a number
 abbrev pub byte_restored : KeptBits → ℕ → ℕ

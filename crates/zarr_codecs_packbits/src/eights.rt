@@ -77,7 +77,7 @@ fn push_bytes(value: &mut Vec<u8>, kept: KeptBits, bytes: &[u8]) -> Result<(), A
 {
     let mut rest = bytes;
     while let Some((eight, others)) = rest.split_first_chunk::<8>() {
-        push_word(value, word_of(kept, eight), kept.count)?;
+        push_eight(value, kept, eight)?;
         rest = others;
     }
     push_word(
@@ -86,6 +86,29 @@ fn push_bytes(value: &mut Vec<u8>, kept: KeptBits, bytes: &[u8]) -> Result<(), A
         (rest.len() * kept.count + 7) / 8,
     )?;
     Ok(())
+}
+
+/// Appends what the kept bits of eight bytes are packed to. Where each is kept of its lowest bit
+/// alone, as of a `bool`, this is one byte, which is made at once.
+fn push_eight(value: &mut Vec<u8>, kept: KeptBits, eight: &[u8; 8]) -> Result<(), AllocError>
+    ensures { OnOk result (value.new.items ≡ value.old.items
+        ++ digits 256 kept.count (number 2 (bits_from kept.first kept.count eight.now))) }
+{
+    if kept.first == 0 && kept.count == 1 {
+        value.push(lowest_bits(eight))?;
+        return Ok(());
+    }
+    push_word(value, word_of(kept, eight), kept.count)
+}
+
+/// The byte that the lowest bits of eight bytes write, lowest first.
+fn lowest_bits(bytes: &[u8; 8]) -> u8
+    ensures { result ≡ number 2 (bits_from 0 1 bytes.now) }
+{
+    let [a, b, c, d, e, f, g, h] = *bytes;
+    let low = a % 2 + b % 2 * 2 + c % 2 * 4 + d % 2 * 8;
+    let high = e % 2 * 16 + f % 2 * 32 + g % 2 * 64 + h % 2 * 128;
+    low + high
 }
 
 /// The number that the kept bits of at most eight bytes write, lowest first.

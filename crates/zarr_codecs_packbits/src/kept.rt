@@ -16,9 +16,17 @@ pub(crate) struct KeptBits {
 }
 
 impl KeptBits {
-    ghost use Rattle.std.specs.Prelude.{◌≡◌, ◌+◌, ◌*◌, ◌/◌, ◌%◌, ◌^◌, ◌≤◌};
+    ghost use Rattle.std.specs.Prelude.{◌≡◌, ◌+◌, ◌*◌, ◌/◌, ◌%◌, ◌^◌, ◌≤◌, IsTrue};
     ghost use Rattle.zarr_codecs_meaning.specs.Types.{extended};
     ghost use Rattle.zarr_codecs_types.specs.Views.{sign_of};
+    ghost use Rattle.zarr_codecs_packbits.specs.Packing.{IsLowestBit};
+
+    /// Whether the lowest bit alone is kept, of elements without a sign.
+    pub(crate) fn is_lowest_bit(self) -> bool
+        ensures { IsTrue result → IsLowestBit self }
+    {
+        self.first == 0 && self.count == 1 && matches!(self.sign, Sign::Unsigned)
+    }
 
     /// How many numbers the kept bits write.
     pub(crate) fn scale(self) -> u64

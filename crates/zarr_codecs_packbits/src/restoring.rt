@@ -45,7 +45,8 @@ fn word_in(bytes: &[u8]) -> u64
     word_of(all, bytes)
 }
 
-/// Appends so many elements, of the number that their kept bits write.
+/// Appends so many elements, of the number that their kept bits write. Eight whose lowest bits
+/// alone were kept, as of `bool`, are made at once.
 fn push_restored(
     bytes: &mut Vec<u8>,
     kept: KeptBits,
@@ -55,6 +56,9 @@ fn push_restored(
     ensures { OnOk result (bytes.new.items ≡ bytes.old.items
         ++ bytes_restored kept count (digits 2 (count * kept.count) word)) }
 {
+    if kept.is_lowest_bit() && count == 8 {
+        return bytes.extend_from_slice(&bits_in(word));
+    }
     let scale = kept.scale();
     let mut rest = word;
     for n in 0..count {
@@ -62,4 +66,21 @@ fn push_restored(
         rest /= scale;
     }
     Ok(())
+}
+
+/// The lowest eight bits of a number, lowest first.
+fn bits_in(word: u64) -> [u8; 8]
+    ensures { result ≡ digits 2 8 word }
+{
+    let byte = (word % 256) as u8;
+    [
+        byte % 2,
+        byte / 2 % 2,
+        byte / 4 % 2,
+        byte / 8 % 2,
+        byte / 16 % 2,
+        byte / 32 % 2,
+        byte / 64 % 2,
+        byte / 128,
+    ]
 }
