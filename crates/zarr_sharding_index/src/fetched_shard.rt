@@ -93,8 +93,8 @@ fn all_lie_between(pairs: &PresentPairs, base: u64, end: u64) -> bool
 fn lies_between(pair: ByteRange, base: u64, end: u64) -> bool
     ensures { result ≡ lies_between base end (pair_of pair) }
 {
-    match pair.offset.checked_add(pair.length) {
-        Some(last) if base <= pair.offset && last <= end => true,
-        _ => is_absent(pair),
+    if base <= pair.offset && pair.offset <= end && pair.length <= end - pair.offset {
+        return true;
     }
+    is_absent(pair)
 }
