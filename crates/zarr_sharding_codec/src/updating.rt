@@ -118,11 +118,7 @@ impl<I: ArrayToBytesCodecTraits, X: ArrayToBytesCodecTraits> ShardingCodec<I, X>
         ensures follows { D.follows source.old source.new }
     {
         match self.whole_subchunk(given.shape, given.indexer) {
-            Some(n) => {
-                let lengths = part_shape(alloc, given.shape, &self.subchunk_shape, n)?;
-                let shape = lengths.as_slice();
-                let number = n as usize;
-                let subchunk = NumberedSubchunk { number, shape };
+            Some(subchunk) => {
                 let bytes = given.bytes;
                 let whole = SubchunkElements { subchunk, bytes };
                 match self.replace_subchunk(alloc, source, shard, whole) {

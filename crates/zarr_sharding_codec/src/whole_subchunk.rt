@@ -5,6 +5,7 @@ ghost use Rattle.zarr_grids_boxes.specs.Boxes.{each2};
 
 use crate::codec::ShardingCodec;
 use crate::subchunks::subchunk_number;
+use crate::updating::NumberedSubchunk;
 use zarr_codecs_traits::{ArrayToBytesCodecTraits, Indexer};
 use zarr_grids_boxes::ArraySubset;
 
@@ -17,18 +18,26 @@ impl<I: ArrayToBytesCodecTraits, X: ArrayToBytesCodecTraits> ShardingCodec<I, X>
     ghost use Rattle.zarr_sharding_codec.specs.Views.{subchunk_of};
     ghost use Rattle.zarr_sharding_places.specs.Locating.{part_shape};
 
-    /// The number of the subchunk whose places are asked for, all of them in its order, or `None`
-    /// where others are, or only some. The places are the array's.
-    pub(crate) fn whole_subchunk(&self, shape: &[u64], indexer: Indexer<'_>) -> Option<u64>
+    /// The subchunk whose places are asked for, all of them in its order, or `None` where others
+    /// are, or only some. The places are the array's.
+    pub(crate) fn whole_subchunk<'a>(
+        &self,
+        shape: &[u64],
+        indexer: Indexer<'a>,
+    ) -> Option<NumberedSubchunk<'a>>
         requires cuts { can_cut shape.now (subchunk_of self.now) ≡ true }
         requires inside { are_inside shape.now (asked_of indexer) ≡ true }
-        ensures { IfSome result (AreSubchunk shape.now (subchunk_of self.now)
-            (numbers_asked shape.now (asked_of indexer.entry))) }
+        ensures places { IfSome result (λ found. AreSubchunk shape.now (subchunk_of self.now)
+            (numbers_asked shape.now (asked_of indexer.entry)) found.number) }
+        ensures shape { IfSome result (λ found. found.shape.now
+            ≡ part_shape shape.now (subchunk_of self.now) found.number) }
     {
-        match indexer {
-            Indexer::Subset(region) => self.subchunk_of_box(shape, region),
-            Indexer::List(_numbers) => None,
-        }
+        let Indexer::Subset(region) = indexer else {
+            return None;
+        };
+        let number = self.subchunk_of_box(shape, region)? as usize;
+        let shape = region.shape();
+        Some(NumberedSubchunk { number, shape })
     }
 
     /// The number of the subchunk that a box of an array is, if it is one.

@@ -1,6 +1,6 @@
 -- What is kept of an index after an edit: the numbers and the pairs, side by side.
-use Rattle.std.proofs.Common.{◌≡◌, ◌∙◌, ℕ, ◌<◌, List, length, get_or, set, map, ap, sym, refl, arith, true, false}
-use Rattle.std.specs.List.{insert, remove}
+use Rattle.std.proofs.Common.{◌≡◌, ◌∙◌, ℕ, ◌<◌, List, length, get_or, set, map, ap, sym, refl, arith, not, true, false}
+use Rattle.std.specs.List.{insert, list_all, range_with_len, remove}
 use Rattle.std.proofs.lemmas.List.{length-map, length-set}
 use Rattle.std.proofs.lemmas.List.Edits.{length-insert, length-remove}
 use Rattle.zarr_codecs_meaning.specs.Decoding.{is_absent}
@@ -8,7 +8,7 @@ use Rattle.zarr_codecs_meaning.specs.Encoding.{Pair, absent_pair}
 use Rattle.zarr_sharding_index.specs.Listed.{IsGapFor, IsListedAt, are_present, full_list, numbered, present_numbers}
 use Rattle.zarr_sharding_index.specs.declared.pair.PresentPair.{PresentPair}
 use Rattle.zarr_sharding_index.proofs.Listed.{are_listed, are_told, full_inserted, full_removed, full_set, lists_all, present_inserted, present_removed, present_set}
-use Rattle.zarr_sharding_index.proofs.Numbered.{at, at_numbered, insert_numbered, length-numbered, listed_of, lists_below, one, remove_numbered, set_numbered}
+use Rattle.zarr_sharding_index.proofs.Numbered.{at, at_numbered, full_made, insert_numbered, length-numbered, listed_of, lists_below, one, remove_numbered, set_numbered}
 
 -- what always holds of what is kept
 pub record IsKept (count : ℕ) (ns : List ℕ) (ps : List Pair) : Type 0 where
@@ -84,3 +84,19 @@ made_of P count ns ps long is pairs =
       },
       ap (full_list count) made ∙ (ap (λ n. full_list n all) long ∙ lists_all (length P) P all refl first),
     )
+
+-- and of an index whose subchunks are all present
+pub made_full : (pairs : List Pair) (count : ℕ) → count ≡ length pairs → list_all (λ pair. not (is_absent pair)) pairs ≡ true → IsKept count (range_with_len 0 count) pairs × (full_list count (numbered (range_with_len 0 count) pairs) ≡ pairs)
+made_full pairs count long all =
+    let full = full_made count pairs long all in
+    made_of pairs count (range_with_len 0 count) pairs long full.numbers full.all
+
+-- the same numbers and pairs once more
+pub kept_again : (count : ℕ) (ns ms : List ℕ) (ps qs : List Pair) → length ns ≡ length ps → are_present 0 count (numbered ns ps) ≡ true → ms ≡ ns → qs ≡ ps → IsKept count ms qs
+kept_again count ns ms ps qs is h numbers pairs = record {
+  listed = ap (λ ks. are_present 0 count (numbered ks qs)) numbers ∙ (ap (λ (rs : List Pair). are_present 0 count (numbered ns rs)) pairs ∙ h);
+  alike = ap length numbers ∙ (is ∙ sym (ap (λ (rs : List Pair). length rs) pairs));
+}
+
+pub full_again : (count : ℕ) (ns ms : List ℕ) (ps qs : List Pair) → ms ≡ ns → qs ≡ ps → full_list count (numbered ms qs) ≡ full_list count (numbered ns ps)
+full_again count ns ms ps qs numbers pairs = ap (λ ks. full_list count (numbered ks qs)) numbers ∙ ap (λ (rs : List Pair). full_list count (numbered ns rs)) pairs

@@ -1,5 +1,5 @@
 -- Numbers of subchunks and pairs for them, side by side.
-use Rattle.std.proofs.Common.{◌≡◌, ◌∙◌, ℕ, zero, suc, ◌+◌, ◌<◌, ◌≤◌, List, [], ◌∷◌, ◌++◌, length, get_or, set, map, ap, sym, refl, subst, arith, Bool, true, false, not, cond, append-nil}
+use Rattle.std.proofs.Common.{◌≡◌, ◌∙◌, ℕ, zero, suc, ◌+◌, ◌<◌, ◌≤◌, List, [], ◌∷◌, ◌++◌, ◌&&◌, length, get_or, set, map, ap, sym, refl, subst, arith, Bool, true, false, not, cond, append-nil}
 use Rattle.std.specs.Prelude.{nat_lt}
 use Rattle.std.specs.List.{filter, insert, list_all, range_with_len, remove}
 use Rattle.std.proofs.lemmas.Bool.{and_from, and_parts, lt-ltb}
@@ -59,8 +59,8 @@ push_numbered [] (q ∷ ps) n p is = absurd (omega (arith, is))
 push_numbered (m ∷ ns) [] n p is = absurd (omega (arith, is))
 push_numbered (m ∷ ns) (q ∷ ps) n p is = ap (λ qs. one m q ∷ qs) (push_numbered ns ps n p (omega (arith, is)))
 
--- a number that is taken away again
-pub inserted_again : (ns : List ℕ) (i n : ℕ) → i ≤ length ns → remove (insert ns i n) i ≡ ns
+-- what is taken away again
+pub inserted_again : {X : Type 0} (ns : List X) (i : ℕ) (n : X) → i ≤ length ns → remove (insert ns i n) i ≡ ns
 inserted_again [] zero n low = refl
 inserted_again [] (suc i) n low = absurd (omega (arith, low))
 inserted_again (m ∷ ns) zero n low = refl
@@ -147,6 +147,13 @@ lists_below pairs (suc n) =
     let next : n + 1 ≡ suc n = omega arith in
     subst (λ k. ListsFirst k pairs (listed_of pairs (present_below pairs (suc n)))) next (lists_next pairs n (is_absent (at pairs n)) refl (lists_below pairs n))
 
+-- one number more
+pub one_more : (n : ℕ) → range_with_len 0 (n + 1) ≡ range_with_len 0 n ++ n ∷ []
+one_more n =
+    let next : n + 1 ≡ suc n = omega arith in
+    let here : 0 + n ≡ n = omega arith in
+    ap (range_with_len 0) next ∙ (range_more 0 n ∙ ap (λ k. range_with_len 0 n ++ k ∷ []) here)
+
 -- what holds of a number and of others holds of the others, with the number or without it
 all_if : (q : ℕ → Bool) (b : Bool) (n : ℕ) (ns : List ℕ) → q n ≡ true → list_all q ns ≡ true → list_all q (cond b (n ∷ ns) ns) ≡ true
 all_if q true n ns here rest = and_from (q n) (list_all q ns) here rest
@@ -184,6 +191,33 @@ pub all_present : (pairs : List Pair) → length (present_numbers pairs) ≡ len
 all_present pairs is =
     let ns = range_with_len 0 (length pairs) in
     ap (map (at pairs)) (filter_whole (there pairs) ns (is ∙ sym (length-range_with_len 0 (length pairs)))) ∙ pairs_again pairs
+
+filter_all : (p : ℕ → Bool) (ns : List ℕ) → list_all p ns ≡ true → filter p ns ≡ ns
+filter_all p [] all = refl
+filter_all p (n ∷ ns) all =
+    let both = and_parts (p n) (list_all p ns) all in
+    ap (λ (b : Bool). cond b (n ∷ filter p ns) (filter p ns)) both.0 ∙ ap (λ ms. n ∷ ms) (filter_all p ns both.1)
+
+all_mapped : (q : Pair → Bool) (f : ℕ → Pair) (ns : List ℕ) → list_all q (map f ns) ≡ list_all (λ n. q (f n)) ns
+all_mapped q f [] = refl
+all_mapped q f (n ∷ ns) = ap (λ b. q (f n) && b) (all_mapped q f ns)
+
+-- where each subchunk is present, their numbers are all
+all_numbers : (pairs : List Pair) → list_all (λ pair. not (is_absent pair)) pairs ≡ true → present_numbers pairs ≡ range_with_len 0 (length pairs)
+all_numbers pairs all =
+    let present : Pair → Bool = λ pair. not (is_absent pair) in
+    let ns = range_with_len 0 (length pairs) in
+    filter_all (there pairs) ns (sym (all_mapped present (at pairs) ns) ∙ (ap (list_all present) (pairs_again pairs) ∙ all))
+
+-- the full list is made of all numbers and all pairs
+pub record IsFull (count : ℕ) (pairs : List Pair) : Type 0 where
+  pub numbers : range_with_len 0 count ≡ present_numbers pairs
+  pub all : pairs ≡ map (at pairs) (present_numbers pairs)
+
+pub full_made : (count : ℕ) (pairs : List Pair) → count ≡ length pairs → list_all (λ pair. not (is_absent pair)) pairs ≡ true → IsFull count pairs
+full_made count pairs long all =
+    let are = all_numbers pairs all in
+    record { numbers = ap (range_with_len 0) long ∙ sym are; all = sym (pairs_again pairs) ∙ ap (map (at pairs)) (sym are) }
 
 -- what holds of all holds of each
 pub each_of : (p : ℕ → Bool) (ns : List ℕ) (i d : ℕ) → list_all p ns ≡ true → i < length ns → p (get_or ns i d) ≡ true

@@ -13,9 +13,9 @@ use Rattle.zarr_codecs_meaning.proofs.Lists.{if_some, some_same}
 use Rattle.zarr_codecs_arrays.specs.declared.error.CodecError.{CodecError}
 use Rattle.zarr_codecs_arrays.specs.declared.error.CodecError.TheVariants as error
 use Rattle.zarr_sharding_changes.specs.Compaction.{data_in}
-use Rattle.zarr_sharding_index.specs.declared.fetched_index.FetchedIndex.{FetchedIndex}
-use Rattle.zarr_sharding_index.specs.HeldIndex.{IsFetched, held_pairs}
-use Rattle.zarr_sharding_index.specs.Present.{all_pairs}
+use Rattle.zarr_sharding_index.specs.declared.fetched_index.WholeIndex.{WholeIndex}
+use Rattle.zarr_sharding_index.specs.HeldIndex.{IsWholeFetched, held_pairs}
+use Rattle.zarr_sharding_index.specs.Views.{pairs_of}
 use Rattle.zarr_sharding_index.specs.Held.{lies_between}
 use Rattle.zarr_sharding_index.specs.declared.known_shard.KnownShard.{KnownShard}
 use Rattle.zarr_sharding_index.specs.Opened.{Misfits, OpenRefused, Opens, data_end}
@@ -40,16 +40,16 @@ too_short index location shape value short =
     let size = index_size index shape in
     ap (λ (b : Bool). if b then option_map pairs_of_cells (decoded index (zero_filled uint64) shape (index_bytes location size value)) else None) (lt-leb size (length value) short)
 
-misfit_damaged : (index : Chain) (location : Location) (shape value : List ℕ) (found : FetchedIndex) → IsFetched index location shape (Some value) (Some found) → Misfits location shape (index_size index shape) found → OpenRefused index location shape (Some value) error.Damage
+misfit_damaged : (index : Chain) (location : Location) (shape value : List ℕ) (found : WholeIndex) → IsWholeFetched index location shape (Some value) (Some found) → Misfits location shape (index_size index shape) found → OpenRefused index location shape (Some value) error.Damage
 misfit_damaged index location shape value found h (inl short) = let total = h.1 in inl (too_short index location shape value (omega (arith, short, total)))
 misfit_damaged index location shape value found h (inr (inl other)) = let many = h.0.many in absurd (other (omega (arith, many)))
 misfit_damaged index location shape value found h (inr (inr outside)) =
     let size = index_size index shape in
     let base = base_of location size in
     let ends = data_ends location size value outside.0 (ap (data_end location size) (sym h.1) ∙ outside.1) in
-    inr (all_pairs found.pairs, h.0.is, subst (λ n. list_all (lies_between base n) (all_pairs found.pairs) ≡ false) ends outside.2)
+    inr (pairs_of found.index, h.0.is, subst (λ n. list_all (lies_between base n) (pairs_of found.index) ≡ false) ends outside.2)
 
-pub known_refused : (index : Chain) (location : Location) (shape : List ℕ) (contents : Option (List ℕ)) (fetched : Option FetchedIndex) (e : CodecError) → IsFetched index location shape contents fetched → Opens location shape (index_size index shape) fetched (Err e)
+pub known_refused : (index : Chain) (location : Location) (shape : List ℕ) (contents : Option (List ℕ)) (fetched : Option WholeIndex) (e : CodecError) → IsWholeFetched index location shape contents fetched → Opens location shape (index_size index shape) fetched (Err e)
     → OpenRefused index location shape contents e
 known_refused index location shape None None error.Damage h k = k
 known_refused index location shape None (Some found) error.Damage h k = elim h [ ]
@@ -73,7 +73,7 @@ known_refused index location shape contents fetched error.InvalidNumberOfElement
 known_refused index location shape contents fetched error.CellOutOfRange h k = k
 
 -- what is known, or why nothing is
-pub known_or_refused : (index : Chain) (location : Location) (shape : List ℕ) (contents : Option (List ℕ)) (fetched : Option FetchedIndex) (result : Result KnownShard CodecError) → IsFetched index location shape contents fetched → Opens location shape (index_size index shape) fetched result
+pub known_or_refused : (index : Chain) (location : Location) (shape : List ℕ) (contents : Option (List ℕ)) (fetched : Option WholeIndex) (result : Result KnownShard CodecError) → IsWholeFetched index location shape contents fetched → Opens location shape (index_size index shape) fetched result
     → IfErr result (OpenRefused index location shape contents)
 known_or_refused index location shape contents fetched (Ok shard) h k = tt
 known_or_refused index location shape contents fetched (Err e) h k = known_refused index location shape contents fetched e h k

@@ -35,9 +35,13 @@ held_as contents pairs end = record { contents = contents; pairs = pairs; end = 
 abbrev pub are_absent : List Pair → Bool
 are_absent pairs = list_all is_absent pairs
 
+-- whether a pair lies in a data part from a base to an end
+abbrev pub lies_within : ℕ → ℕ → Pair → Bool
+lies_within base end pair = nat_le base pair.0 && nat_le (pair.0 + pair.1) end
+
 -- whether a pair is absent, or lies in a data part from a base to an end
 abbrev pub lies_between : ℕ → ℕ → Pair → Bool
-lies_between base end pair = is_absent pair || (nat_le base pair.0 && nat_le (pair.0 + pair.1) end)
+lies_between base end pair = is_absent pair || lies_within base end pair
 
 -- what is known of a shard once it is opened: its pairs, each of which lies in the data part, and where that ends. Where there is no value, each subchunk is absent, and the data part is empty
 abbrev pub IsOpened : IndexLayout → ℕ → Option (List ℕ) → List Pair → ℕ → Type 0

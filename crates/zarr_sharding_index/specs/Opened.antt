@@ -9,11 +9,12 @@ use Rattle.zarr_codecs_meaning.specs.Standing.{index_layout}
 use Rattle.zarr_codecs_arrays.specs.declared.error.CodecError.{CodecError}
 use Rattle.zarr_codecs_arrays.specs.declared.error.CodecError.TheVariants as error
 use Rattle.zarr_sharding_changes.specs.Compaction.{data_in}
-use Rattle.zarr_sharding_index.specs.declared.fetched_index.FetchedIndex.{FetchedIndex}
+use Rattle.zarr_sharding_index.specs.declared.fetched_index.WholeIndex.{WholeIndex}
 use Rattle.zarr_sharding_index.specs.HeldIndex.{held_pairs}
 use Rattle.zarr_sharding_index.specs.Present.{all_pairs}
 use Rattle.zarr_sharding_index.specs.Held.{lies_between, IsOpened}
 use Rattle.zarr_sharding_index.specs.declared.known_shard.KnownShard.{KnownShard}
+use Rattle.zarr_sharding_index.specs.Views.{pairs_of}
 use Rattle.zarr_sharding_index.specs.Known.{end_of, known_location, known_shape, known_length, pairs_in}
 
 -- where the data part ends of a shard of so many bytes, if these are as many as those of its index
@@ -22,28 +23,28 @@ data_end at_start size total = if nat_le size total then Some total else None
 data_end at_end size total = if nat_le size total then Some (total - size) else None
 
 -- the pairs of what is known of a shard, and the end of its data part, are those of a fetched index, or those of no value
-abbrev pub AreFetched : Location → List ℕ → ℕ → Option FetchedIndex → KnownShard → Type 0
+abbrev pub AreFetched : Location → List ℕ → ℕ → Option WholeIndex → KnownShard → Type 0
 AreFetched location shape size None made = (all_pairs made.pairs ≡ replicate (product shape / 2) absent_pair) × (made.end ≡ base_of location size)
 AreFetched location shape size (Some found) made =
-    (all_pairs made.pairs ≡ all_pairs found.pairs) × (data_end location size found.total ≡ Some made.end) × (list_all (lies_between (base_of location size) made.end) (all_pairs made.pairs) ≡ true)
+    (all_pairs made.pairs ≡ pairs_of found.index) × (data_end location size found.total ≡ Some made.end) × (list_all (lies_between (base_of location size) made.end) (all_pairs made.pairs) ≡ true)
 
 -- what is known of a shard by its fetched index
-pub record IsKnown (location : Location) (shape : List ℕ) (size : ℕ) (fetched : Option FetchedIndex) (made : KnownShard) : Type 0 where
+pub record IsKnown (location : Location) (shape : List ℕ) (size : ℕ) (fetched : Option WholeIndex) (made : KnownShard) : Type 0 where
   pub many : length (all_pairs made.pairs) ≡ product shape / 2
   pub low : made.end < 2 ^ 63
   pub are : AreFetched location shape size fetched made
 
 -- a fetched index isn't that of a shard: it is longer than the shard, has another number of pairs, or a present pair lies outside the data part
-abbrev pub Misfits : Location → List ℕ → ℕ → FetchedIndex → Type 0
+abbrev pub Misfits : Location → List ℕ → ℕ → WholeIndex → Type 0
 Misfits location shape size found =
-    (found.total < size) ⊎ (length (all_pairs found.pairs) ≡ product shape / 2 → ⊥)
-    ⊎ ((end : ℕ) × (data_end location size found.total ≡ Some end) × (list_all (lies_between (base_of location size) end) (all_pairs found.pairs) ≡ false))
+    (found.total < size) ⊎ (length (pairs_of found.index) ≡ product shape / 2 → ⊥)
+    ⊎ ((end : ℕ) × (data_end location size found.total ≡ Some end) × (list_all (lies_between (base_of location size) end) (pairs_of found.index) ≡ false))
 
 -- what is known of a shard by its fetched index, or why nothing is
-abbrev pub Opens : Location → List ℕ → ℕ → Option FetchedIndex → Result KnownShard CodecError → Type 0
+abbrev pub Opens : Location → List ℕ → ℕ → Option WholeIndex → Result KnownShard CodecError → Type 0
 Opens location shape size fetched (Ok made) = IsKnown location shape size fetched made
-Opens location shape size fetched (Err error.Damage) = MatchOption fetched ⊥ (λ (found : FetchedIndex). Misfits location shape size found)
-Opens location shape size fetched (Err error.Size) = MatchOption fetched ⊥ (λ (found : FetchedIndex). 2 ^ 63 ≤ found.total)
+Opens location shape size fetched (Err error.Damage) = MatchOption fetched ⊥ (λ (found : WholeIndex). Misfits location shape size found)
+Opens location shape size fetched (Err error.Size) = MatchOption fetched ⊥ (λ (found : WholeIndex). 2 ^ 63 ≤ found.total)
 Opens location shape size fetched (Err error.Memory) = Unit {0}
 Opens location shape size fetched (Err e) = ⊥
 

@@ -1,5 +1,7 @@
 -- What the values of `src/` stand for.
-use Rattle.std.specs.Prelude.{ℕ, List, Option, None, Some}
+use Rattle.std.specs.Prelude.{ℕ, List, Option, None, Some, Vec}
+use Rattle.std.specs.List.{range_with_len}
+use Rattle.std.specs.declared.alloc.Global.{Global}
 use Rattle.zarr_codecs_meaning.specs.Chains as chains
 use Rattle.zarr_codecs_meaning.specs.Decoding.{pairs_of_cells}
 use Rattle.zarr_codecs_meaning.specs.Encoding.{Pair}
@@ -26,6 +28,11 @@ pairs_of_bytes bytes = pairs_of_cells (fixed_cells 8 bytes)
 -- all pairs of an index
 abbrev pub pairs_of : ShardIndex → List Pair
 pairs_of index = pairs_of_bytes index.bytes.items
+
+-- the numbers of the present ones of so many subchunks: those that are listed, or all where none are
+abbrev pub kept_numbers : ℕ → Option (Vec ℕ Global) → List ℕ
+kept_numbers count None = range_with_len 0 count
+kept_numbers count (Some listed) = listed.items
 
 -- the bytes that are lent, if some are
 abbrev pub slice_lent : Option (Bor (List ℕ)) → Option (List ℕ)

@@ -3,7 +3,7 @@ ghost use Rattle.std.specs.Prelude.{◌≡◌, ◌<◌, ◌≤◌, ◌+◌, ◌%
 ghost use Rattle.zarr_codecs_meaning.specs.Encoding.{index_size};
 ghost use Rattle.zarr_codecs_traits.specs.Sources.{part_lists, refused_after, value_bytes, value_length};
 ghost use Rattle.zarr_grids_boxes.specs.Boxes.{product};
-ghost use Rattle.zarr_sharding_index.specs.HeldIndex.{DecodesIndex, FetchesIndex, FetchesSlice};
+ghost use Rattle.zarr_sharding_index.specs.HeldIndex.{DecodesIndex, FetchesIndex, FetchesSlice, FetchesWhole};
 ghost use Rattle.zarr_sharding_index.specs.Stored.{index_fits};
 ghost use Rattle.zarr_sharding_index.specs.Views.{location_of, pair_of};
 
@@ -29,6 +29,13 @@ pub struct IndexLayout<'a> {
 #[derive(Debug, Drop)]
 pub struct FetchedIndex {
     pub pairs: PresentPairs,
+    pub total: u64,
+}
+
+/// The full index of a shard, and how many bytes the shard has.
+#[derive(Debug, Drop)]
+pub(crate) struct WholeIndex {
+    pub index: ShardIndex,
     pub total: u64,
 }
 
@@ -79,6 +86,37 @@ pub fn fetch_index<X: ArrayToBytesCodecTraits, D: BytesPartialDecoderTraits>(
         ≤ D.given_bytes source.old + value_length (D.contents source.old) }
     ensures follows { D.follows source.old source.new }
 {
+    match fetch_whole_index(alloc, codec, source, layout) {
+        Ok(Some(found)) => {
+            let pairs = PresentPairs::from_index(alloc, found.index)?;
+            let total = found.total;
+            Ok(Some(FetchedIndex { pairs, total }))
+        }
+        Ok(None) => Ok(None),
+        Err(error) => Err(error),
+    }
+}
+
+/// The full index of the shard that a source holds, as `fetch_index` fetches it, with its errors.
+pub(crate) fn fetch_whole_index<X: ArrayToBytesCodecTraits, D: BytesPartialDecoderTraits>(
+    alloc: Global,
+    codec: &X,
+    source: &mut D,
+    layout: IndexLayout<'_>,
+) -> Result<Option<WholeIndex>, CodecError>
+    requires fit { index_fits (X.meaning codec.now) layout.shape.now ≡ true }
+    requires even { product layout.shape.now % 2 ≡ 0 }
+    requires size { layout.size ≡ index_size (X.meaning codec.now) layout.shape.now }
+    ensures index { IsTrue (D.is_honest source.old) → FetchesWhole (X.meaning codec.now)
+        (location_of layout.entry.location) layout.entry.shape.now (D.contents source.old) result }
+    ensures refused { D.refused_calls source.new ≡
+        refused_after (D.refused_calls source.old) result }
+    ensures given { IsTrue (D.is_honest source.old) →
+        D.given_bytes source.new ≤ D.given_bytes source.old + layout.entry.size }
+    ensures within { IsTrue (D.is_honest source.old) → D.given_bytes source.new
+        ≤ D.given_bytes source.old + value_length (D.contents source.old) }
+    ensures follows { D.follows source.old source.new }
+{
     match source.size() {
         Ok(Some(total)) => {
             if layout.size > total {
@@ -87,10 +125,7 @@ pub fn fetch_index<X: ArrayToBytesCodecTraits, D: BytesPartialDecoderTraits>(
             let range = layout.location.index_range(layout.size, total);
             match fetch_slice(alloc, source, total, range) {
                 Ok(bytes) => match read_index(alloc, codec, bytes, layout.shape) {
-                    Ok(index) => {
-                        let pairs = PresentPairs::from_index(alloc, index)?;
-                        Ok(Some(FetchedIndex { pairs, total }))
-                    }
+                    Ok(index) => Ok(Some(WholeIndex { index, total })),
                     Err(error) => Err(error),
                 },
                 Err(error) => Err(error),

@@ -1,18 +1,19 @@
 //! What is known of a shard once its index is fetched.
-ghost use Rattle.std.specs.Prelude.{◌≡◌, ◌^◌, ◌<◌, ◌%◌, IfOk};
+ghost use Rattle.std.specs.Prelude.{◌≡◌, ◌^◌, ◌<◌, ◌%◌, is_some, IfOk, IfSome};
 ghost use Rattle.std.specs.List.{list_all};
 ghost use Rattle.zarr_sharding_index.specs.Present.{all_pairs};
-ghost use Rattle.zarr_sharding_index.specs.Views.{location_of, pair_of};
-ghost use Rattle.zarr_sharding_index.specs.Held.{lies_between};
+ghost use Rattle.zarr_sharding_index.specs.Views.{location_of, pair_of, pairs_of};
+ghost use Rattle.zarr_sharding_index.specs.Held.{lies_between, lies_within};
 ghost use Rattle.zarr_sharding_index.specs.Opened.{Opens, data_end, IsLaid};
 ghost use Rattle.zarr_grids_boxes.specs.Boxes.{product};
 
-use crate::fetched_index::{FetchedIndex, IndexLayout};
+use crate::fetched_index::{IndexLayout, WholeIndex};
+use crate::index::ShardIndex;
 use crate::known_shard::KnownShard;
 use crate::location::ShardingIndexLocation;
 use crate::pair::is_absent;
 use crate::present::PresentPairs;
-use std::alloc::Global;
+use std::alloc::{AllocError, Global};
 use zarr_codecs_arrays::CodecError;
 use zarr_codecs_traits::ByteRange;
 use zarr_grids_boxes::walk::count_places;
@@ -21,7 +22,7 @@ use zarr_grids_boxes::walk::count_places;
 /// `Damage` where one doesn't, and `Size` where the data part ends past 2^63 - 1 bytes.
 pub(crate) fn open_fetched(
     alloc: Global,
-    fetched: Option<FetchedIndex>,
+    fetched: Option<WholeIndex>,
     layout: IndexLayout<'_>,
 ) -> Result<KnownShard, CodecError>
     requires low { layout.size < 2 ^ 63 }
@@ -50,14 +51,17 @@ pub(crate) fn open_fetched(
     let Some(end) = data_end(location, size, found.total) else {
         return Err(CodecError::Damage);
     };
-    if found.pairs.len() as u64 != count / 2 || !all_lie_between(&found.pairs, base, end) {
+    if found.index.len() as u64 != count / 2 {
         return Err(CodecError::Damage);
     }
+    let Some(pairs) = pairs_between(alloc, found.index, base, end)? else {
+        return Err(CodecError::Damage);
+    };
     if end > 0x7fff_ffff_ffff_ffff {
         return Err(CodecError::Size);
     }
     Ok(KnownShard {
-        pairs: found.pairs,
+        pairs,
         end,
         location,
         shape,
@@ -77,6 +81,41 @@ fn data_end(location: ShardingIndexLocation, size: u64, total: u64) -> Option<u6
     }
 }
 
+/// The pairs of an index, or `None` where a present one doesn't lie in a data part from `base` to
+/// `end`. Where each pair lies there, each subchunk is present, and one pass is enough.
+fn pairs_between(
+    alloc: Global,
+    index: ShardIndex,
+    base: u64,
+    end: u64,
+) -> Result<Option<PresentPairs>, AllocError>
+    ensures some { IfOk result (λ found. IfSome found (λ pairs. all_pairs pairs ≡ pairs_of index)) }
+    ensures lie { IfOk result (λ found. is_some found
+        ≡ list_all (lies_between base end) (pairs_of index)) }
+{
+    if all_lie_within(&index, base, end) {
+        return Ok(Some(PresentPairs::from_full(index)));
+    }
+    let pairs = PresentPairs::from_index(alloc, index)?;
+    if all_lie_between(&pairs, base, end) {
+        Ok(Some(pairs))
+    } else {
+        Ok(None)
+    }
+}
+
+/// Whether each pair lies in a data part from `base` to `end`.
+fn all_lie_within(index: &ShardIndex, base: u64, end: u64) -> bool
+    ensures { result ≡ list_all (lies_within base end) (pairs_of index.now) }
+{
+    for n in 0..index.len() {
+        if !lies_within(index.get(n), base, end) {
+            return false;
+        }
+    }
+    true
+}
+
 /// Whether each present pair lies in a data part from `base` to `end`.
 fn all_lie_between(pairs: &PresentPairs, base: u64, end: u64) -> bool
     ensures { result ≡ list_all (lies_between base end) (all_pairs pairs.now) }
@@ -93,8 +132,12 @@ fn all_lie_between(pairs: &PresentPairs, base: u64, end: u64) -> bool
 fn lies_between(pair: ByteRange, base: u64, end: u64) -> bool
     ensures { result ≡ lies_between base end (pair_of pair) }
 {
-    if base <= pair.offset && pair.offset <= end && pair.length <= end - pair.offset {
-        return true;
-    }
-    is_absent(pair)
+    lies_within(pair, base, end) || is_absent(pair)
+}
+
+/// Whether a pair lies in a data part from `base` to `end`.
+fn lies_within(pair: ByteRange, base: u64, end: u64) -> bool
+    ensures { result ≡ lies_within base end (pair_of pair) }
+{
+    base <= pair.offset && pair.offset <= end && pair.length <= end - pair.offset
 }

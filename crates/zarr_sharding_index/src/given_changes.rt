@@ -93,7 +93,7 @@ impl KnownShard {
         }
         let offset = self.end;
         let before = self.pairs.get(number);
-        self.pairs.put(number, ByteRange { offset, length })?;
+        self.pairs.put(alloc, number, ByteRange { offset, length })?;
         match self.append_slice(alloc, source, codecs, given) {
             Ok(()) => {
                 self.end = offset + length;

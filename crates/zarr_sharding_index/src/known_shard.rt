@@ -3,7 +3,7 @@ ghost use Rattle.std.specs.Prelude.{◌^◌, ◌<◌, ◌≡◌, ◌*◌, length
 ghost use Rattle.zarr_grids_boxes.specs.Boxes.{product};
 ghost use Rattle.zarr_sharding_index.specs.Present.{all_pairs};
 
-use crate::fetched_index::{IndexLayout, fetch_index, fetch_slice};
+use crate::fetched_index::{IndexLayout, fetch_slice, fetch_whole_index};
 use crate::fetched_shard::open_fetched;
 use crate::location::ShardingIndexLocation;
 use crate::pair::is_absent;
@@ -86,7 +86,7 @@ impl KnownShard {
             ≤ D.given_bytes source.old + value_length (D.contents source.old) }
         ensures follows { D.follows source.old source.new }
     {
-        match fetch_index(alloc, codecs, source, layout) {
+        match fetch_whole_index(alloc, codecs, source, layout) {
             Ok(fetched) => open_fetched(alloc, fetched, layout),
             Err(error) => Err(error),
         }

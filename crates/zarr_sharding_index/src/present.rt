@@ -1,9 +1,9 @@
 //! An index of a shard of which the pairs of present subchunks are kept.
 ghost use Rattle.std.specs.Prelude.{◌≡◌, List, length, get_or, map, nat_lt, true, IfOk};
-ghost use Rattle.std.specs.List.{list_all};
+ghost use Rattle.std.specs.List.{list_all, range_with_len};
 ghost use Rattle.zarr_codecs_meaning.specs.Encoding.{absent_pair};
 ghost use Rattle.zarr_sharding_index.specs.Listed.{are_present, numbered, present_numbers};
-ghost use Rattle.zarr_sharding_index.specs.Views.{pairs_of};
+ghost use Rattle.zarr_sharding_index.specs.Views.{kept_numbers, pairs_of};
 
 use crate::index::ShardIndex;
 use crate::pair::{ABSENT, PresentPair, is_absent};
@@ -11,25 +11,26 @@ use std::alloc::{AllocError, Global};
 use zarr_codecs_traits::ByteRange;
 
 /// The index of a shard, of which the pairs of present subchunks alone are kept, sorted by the
-/// numbers of these: the numbers, and the pairs as the full index has them. A contract sees it as
-/// the list of all pairs.
+/// numbers of these: the numbers, unless each subchunk is present, and the pairs as the full index
+/// has them. A contract sees it as the list of all pairs.
 #[derive(Debug, Drop)]
 pub struct PresentPairs {
     count: usize,
-    numbers: Vec<usize>,
+    numbers: Option<Vec<usize>>,
     ranges: ShardIndex,
-    ghost listed: { are_present 0 count (numbered numbers.items (pairs_of ranges)) ≡ true },
-    ghost alike: { length numbers.items ≡ length (pairs_of ranges) },
+    ghost listed: { are_present 0 count
+        (numbered (kept_numbers count numbers) (pairs_of ranges)) ≡ true },
+    ghost alike: { length (kept_numbers count numbers) ≡ length (pairs_of ranges) },
 }
 
 impl PresentPairs {
-    ghost use Rattle.std.specs.Prelude.{◌≡◌, ◌≢◌, ◌<◌, List, length, get_or, slice_set, replicate, false, true, IfErr, IfNone, IfOk, IfSome, OnErr, OnOk};
+    ghost use Rattle.std.specs.Prelude.{◌≡◌, ◌≢◌, ◌<◌, ℕ, List, length, get_or, slice_set, replicate, not, false, true, IfErr, IfNone, IfOk, IfSome, OnErr, OnOk};
     ghost use Rattle.std.specs.List.{list_all};
     ghost use Rattle.zarr_codecs_meaning.specs.Decoding.{is_absent};
     ghost use Rattle.zarr_codecs_meaning.specs.Encoding.{absent_pair};
     ghost use Rattle.zarr_sharding_index.specs.Listed.{IsGapFor, IsListedAt, are_present, count_present, full_list};
-    ghost use Rattle.zarr_sharding_index.specs.Present.{all_pairs, kept_pairs};
-    ghost use Rattle.zarr_sharding_index.specs.Views.{pair_of, pairs_of};
+    ghost use Rattle.zarr_sharding_index.specs.Present.{all_pairs, are_numbers_listed, kept_pairs};
+    ghost use Rattle.zarr_sharding_index.specs.Views.{kept_numbers, pair_of, pairs_of};
     ghost use Rattle.zarr_sharding_index.specs.declared.pair.PresentPair.{PresentPair};
 
     /// The index of so many subchunks, each of which is absent.
@@ -38,7 +39,7 @@ impl PresentPairs {
     {
         PresentPairs {
             count,
-            numbers: Vec::new(alloc),
+            numbers: Some(Vec::new(alloc)),
             ranges: ShardIndex::new(alloc),
         }
     }
@@ -52,16 +53,29 @@ impl PresentPairs {
         if numbers.len() == count {
             return Ok(PresentPairs {
                 count,
-                numbers,
+                numbers: Some(numbers),
                 ranges: index,
             });
         }
         let ranges = pairs_at(alloc, &index, numbers.as_slice())?;
         Ok(PresentPairs {
             count,
-            numbers,
+            numbers: Some(numbers),
             ranges,
         })
+    }
+
+    /// The index of the same pairs, each of which is that of a present subchunk. Their numbers
+    /// aren't listed.
+    pub(crate) fn from_full(index: ShardIndex) -> PresentPairs
+        requires { list_all (λ pair. not (is_absent pair)) (pairs_of index) ≡ true }
+        ensures { all_pairs result ≡ pairs_of index }
+    {
+        PresentPairs {
+            count: index.len(),
+            numbers: None,
+            ranges: index,
+        }
     }
 
     /// The full list of the pairs.
@@ -96,9 +110,13 @@ impl PresentPairs {
     pub fn try_clone(&self, alloc: Global) -> Result<PresentPairs, AllocError>
         ensures { IfOk result (λ copy. all_pairs copy ≡ all_pairs self.now) }
     {
+        let numbers = match &self.numbers {
+            Some(listed) => Some(Vec::from_slice(alloc, listed.as_slice())?),
+            None => None,
+        };
         Ok(PresentPairs {
             count: self.count,
-            numbers: Vec::from_slice(alloc, self.numbers.as_slice())?,
+            numbers,
             ranges: self.ranges.try_clone(alloc)?,
         })
     }
@@ -119,7 +137,7 @@ impl PresentPairs {
         ensures all { full_list (length (all_pairs self.now)) (kept_pairs self.now)
             ≡ all_pairs self.now }
     {
-        self.numbers.len()
+        self.ranges.len()
     }
 
     /// The number and the pair of a present subchunk, by its place among the present ones, below
@@ -129,8 +147,20 @@ impl PresentPairs {
         ensures { (other : PresentPair) → result ≡ get_or (kept_pairs self.now) k other }
     {
         PresentPair {
-            number: self.numbers[k],
+            number: self.number_at(k),
             range: self.ranges.get(k),
+        }
+    }
+
+    /// The number of the subchunk whose pair is kept at a place.
+    fn number_at(&self, k: usize) -> usize
+        requires { k < length (kept_numbers self.now.count self.now.numbers) }
+        ensures { (other : ℕ) → result
+            ≡ get_or (kept_numbers self.now.count self.now.numbers) k other }
+    {
+        match &self.numbers {
+            Some(listed) => listed[k],
+            None => k,
         }
     }
 
@@ -138,7 +168,7 @@ impl PresentPairs {
     pub fn are_absent(&self) -> bool
         ensures { result ≡ list_all is_absent (all_pairs self.now) }
     {
-        self.numbers.is_empty()
+        self.count_present() == 0
     }
 
     /// The pair of the subchunk with this number.
@@ -153,13 +183,16 @@ impl PresentPairs {
     }
 
     /// Replaces the pair of the subchunk with this number. An `Err` leaves the index as it was.
-    pub fn put(&mut self, n: usize, pair: ByteRange) -> Result<(), AllocError>
+    pub fn put(&mut self, alloc: Global, n: usize, pair: ByteRange) -> Result<(), AllocError>
         requires { n < length (all_pairs self.old) }
         ensures ok { OnOk result
             (all_pairs self.new ≡ slice_set (all_pairs self.old) n (pair_of pair)) }
         ensures err { OnErr result (all_pairs self.new ≡ all_pairs self.old) }
+        ensures listed { is_absent (get_or (all_pairs self.old) n absent_pair) ≡ true →
+            OnOk result (are_numbers_listed self.new ≡ true) }
     {
         if is_absent(pair) {
+            self.list_numbers(alloc)?;
             self.remove(n);
             return Ok(());
         }
@@ -184,23 +217,30 @@ impl PresentPairs {
         requires gap { IsGapFor (kept_pairs self.old) new.number at }
         requires below { new.number < length (all_pairs self.old) }
         requires present { is_absent (pair_of new.range) ≡ false }
+        requires listed { are_numbers_listed self.old ≡ true }
         ensures ok { OnOk result (all_pairs self.new
             ≡ slice_set (all_pairs self.old) new.number (pair_of new.range)) }
         ensures err { OnErr result (all_pairs self.new ≡ all_pairs self.old) }
+        ensures listed { are_numbers_listed self.new ≡ true }
     {
-        self.numbers.insert(at, new.number)?;
-        match self.ranges.insert(at, new.range) {
+        self.ranges.insert(at, new.range)?;
+        let Some(listed) = &mut self.numbers else {
+            unreachable!();
+        };
+        match listed.insert(at, new.number) {
             Ok(()) => Ok(()),
             Err(error) => {
-                self.numbers.remove(at);
-                Err(error)
+                self.ranges.remove(at);
+                Err(error.into())
             }
         }
     }
 
-    /// Replaces the pair of a subchunk that is present.
-    pub fn replace(&mut self, n: usize, pair: ByteRange)
-        requires { is_absent (get_or (all_pairs self.old) n absent_pair) ≡ false }
+    /// Replaces the pair of a subchunk that is present. Where the new one is that of an absent
+    /// subchunk, the numbers are listed.
+    pub(crate) fn replace(&mut self, n: usize, pair: ByteRange)
+        requires present { is_absent (get_or (all_pairs self.old) n absent_pair) ≡ false }
+        requires listed { is_absent (pair_of pair) ≡ true → are_numbers_listed self.old ≡ true }
         ensures { all_pairs self.new ≡ slice_set (all_pairs self.old) n (pair_of pair) }
     {
         if is_absent(pair) {
@@ -213,17 +253,33 @@ impl PresentPairs {
         }
     }
 
-    /// Makes the subchunk with this number absent.
+    /// Makes the subchunk with this number absent. The numbers stay listed.
     fn remove(&mut self, n: usize)
-        ensures { all_pairs self.new ≡ slice_set (all_pairs self.old) n absent_pair }
+        requires { are_numbers_listed self.old ≡ true }
+        ensures pairs { all_pairs self.new ≡ slice_set (all_pairs self.old) n absent_pair }
+        ensures listed { are_numbers_listed self.new ≡ true }
     {
         match self.place_of(n) {
             Ok(at) => {
-                self.numbers.remove(at);
-                self.ranges.remove(at);
+                if let Some(listed) = &mut self.numbers {
+                    listed.remove(at);
+                    self.ranges.remove(at);
+                }
             }
             Err(_) => {}
         }
+    }
+
+    /// Lists the numbers of the present subchunks, where they aren't. An `Err` leaves the index as
+    /// it was.
+    fn list_numbers(&mut self, alloc: Global) -> Result<(), AllocError>
+        ensures pairs { all_pairs self.new ≡ all_pairs self.old }
+        ensures listed { OnOk result (are_numbers_listed self.new ≡ true) }
+    {
+        if self.numbers.is_none() {
+            self.numbers = Some(numbers_below(alloc, self.count)?);
+        }
+        Ok(())
     }
 
     /// Where the pair of the subchunk with this number is kept, or where it would be.
@@ -231,7 +287,16 @@ impl PresentPairs {
         ensures found { IfOk result (IsListedAt (kept_pairs self.now) n) }
         ensures absent { IfErr result (IsGapFor (kept_pairs self.now) n) }
     {
-        self.numbers.as_slice().binary_search(&n)
+        match &self.numbers {
+            Some(listed) => listed.as_slice().binary_search(&n),
+            None => {
+                if n < self.count {
+                    Ok(n)
+                } else {
+                    Err(self.count)
+                }
+            }
+        }
     }
 }
 
@@ -246,6 +311,17 @@ fn present_numbers(alloc: Global, index: &ShardIndex) -> Result<Vec<usize>, Allo
         }
     }
     numbers.shrink_to_fit();
+    Ok(numbers)
+}
+
+/// The numbers below a count.
+fn numbers_below(alloc: Global, count: usize) -> Result<Vec<usize>, AllocError>
+    ensures { IfOk result (λ made. made.items ≡ range_with_len 0 count) }
+{
+    let mut numbers = Vec::with_capacity(alloc, count)?;
+    for n in 0..count {
+        numbers.push(n)?;
+    }
     Ok(numbers)
 }
 

@@ -89,12 +89,13 @@ pub(crate) fn changed_pairs(
         ≡ pairs_after end (changes_of changes.now) (all_pairs pairs.now)) }
 {
     let mut made = pairs.try_clone(alloc)?;
-    put_changes(&mut made, changes, end)?;
+    put_changes(alloc, &mut made, changes, end)?;
     Ok(made)
 }
 
 /// Puts the pairs of slices among others, the first of which begins at `end`.
 fn put_changes(
+    alloc: Global,
     pairs: &mut PresentPairs,
     changes: &[SliceChange],
     end: u64,
@@ -109,10 +110,10 @@ fn put_changes(
         match &change.slice {
             Some(bytes) => {
                 let length = bytes.len() as u64;
-                pairs.put(change.number, ByteRange { offset, length })?;
+                pairs.put(alloc, change.number, ByteRange { offset, length })?;
                 offset += length;
             }
-            None => pairs.put(change.number, ABSENT)?,
+            None => pairs.put(alloc, change.number, ABSENT)?,
         }
     }
     Ok(())

@@ -30,32 +30,16 @@ whole_subchunk-requires-clause-cuts g c =
     let self = c.args.self.now in
     (fitted self.subchunk_shape (g.I.ArrayToBytesCodecTraits.meaning self.inner_codecs) (g.X.ArrayToBytesCodecTraits.meaning self.index_codecs) (location_of self.index_location) (elements_of c.args.shard.elements.now) c.args.given.shape.now c.requires.fit).cuts
 
-pub part_shape-requires-clause-rank : goal.part_shape-requires-clause-rank
-part_shape-requires-clause-rank g c =
-    let self = c.args.self.now in
-    rank_fits self.subchunk_shape (g.I.ArrayToBytesCodecTraits.meaning self.inner_codecs) (g.X.ArrayToBytesCodecTraits.meaning self.index_codecs) (location_of self.index_location) (elements_of c.args.shard.elements.now) c.args.given.shape.now c.requires.fit
-
-pub part_shape-requires-clause-below : goal.part_shape-requires-clause-below
-part_shape-requires-clause-below g c =
-    let self = c.args.self.now in
-    let shape = c.args.given.shape.now in
-    let numbers = numbers_asked shape (asked_of c.args.given.indexer) in
-    let n = c.in-Some.n in
-    let is = subst (λ (o : Option ℕ). IfSome o (AreSubchunk shape self.subchunk_shape numbers)) c.in-Some.is c.whole_subchunk.ensures in
-    let below = is.below in
-    let count = length-parts shape self.subchunk_shape in
-    omega (arith, below, count)
-
 pub replace_subchunk-requires-clause-fit : goal.replace_subchunk-requires-clause-fit
 replace_subchunk-requires-clause-fit g c =
     let self = c.args.self.now in
     let shape = c.args.given.shape.now in
     let numbers = numbers_asked shape (asked_of c.args.given.indexer) in
-    let n = c.in-Some.n in
-    let is = subst (λ (o : Option ℕ). IfSome o (AreSubchunk shape self.subchunk_shape numbers)) c.in-Some.is c.whole_subchunk.ensures in
+    let n = c.in-Some.subchunk.number in
+    let is = c.in-Some.ensures.places in
     let inner = g.I.ArrayToBytesCodecTraits.meaning self.inner_codecs in
     let elements = elements_of c.args.shard.elements.now in
-    ap (λ (es : List ℕ). fits inner elements.type es) (c.as_slice-shape.ensures.value ∙ c.in_ok-lengths-in-Some.ensures)
+    ap (λ (es : List ℕ). fits inner elements.type es) c.in-Some.ensures.shape
     ∙ part_fits self.subchunk_shape inner (g.X.ArrayToBytesCodecTraits.meaning self.index_codecs) (location_of self.index_location) elements shape n c.requires.fit is.below
 
 pub replace_subchunk-requires-clause-pair : goal.replace_subchunk-requires-clause-pair
@@ -63,8 +47,8 @@ replace_subchunk-requires-clause-pair g c =
     let self = c.args.self.now in
     let shape = c.args.given.shape.now in
     let numbers = numbers_asked shape (asked_of c.args.given.indexer) in
-    let n = c.in-Some.n in
-    let is = subst (λ (o : Option ℕ). IfSome o (AreSubchunk shape self.subchunk_shape numbers)) c.in-Some.is c.whole_subchunk.ensures in
+    let n = c.in-Some.subchunk.number in
+    let is = c.in-Some.ensures.places in
     let below = is.below in
     let many = c.requires.many in
     omega (arith, below, many)
@@ -77,8 +61,8 @@ returns-in_err-one_change-in-Ok-clause-given g c = λ honest.
     let self = c.args.self.now in
     let shape = c.args.given.shape.now in
     let numbers = numbers_asked shape (asked_of c.args.given.indexer) in
-    let n = c.in-Some.n in
-    let is = subst (λ (o : Option ℕ). IfSome o (AreSubchunk shape self.subchunk_shape numbers)) c.in-Some.is c.whole_subchunk.ensures in
+    let n = c.in-Some.subchunk.number in
+    let is = c.in-Some.ensures.places in
     let s : AskedShard = record {
       inner = g.I.ArrayToBytesCodecTraits.meaning self.inner_codecs;
       elements = elements_of c.args.shard.elements.now;
@@ -97,8 +81,8 @@ returns-in-Ok-clause-given g c = λ honest.
     let self = c.args.self.now in
     let shape = c.args.given.shape.now in
     let numbers = numbers_asked shape (asked_of c.args.given.indexer) in
-    let n = c.in-Some.n in
-    let is = subst (λ (o : Option ℕ). IfSome o (AreSubchunk shape self.subchunk_shape numbers)) c.in-Some.is c.whole_subchunk.ensures in
+    let n = c.in-Some.subchunk.number in
+    let is = c.in-Some.ensures.places in
     let s : AskedShard = record {
       inner = g.I.ArrayToBytesCodecTraits.meaning self.inner_codecs;
       elements = elements_of c.args.shard.elements.now;
@@ -117,8 +101,8 @@ returns-in-Some-clause-given g c = λ honest.
     let self = c.args.self.now in
     let shape = c.args.given.shape.now in
     let numbers = numbers_asked shape (asked_of c.args.given.indexer) in
-    let n = c.in-Some.n in
-    let is = subst (λ (o : Option ℕ). IfSome o (AreSubchunk shape self.subchunk_shape numbers)) c.in-Some.is c.whole_subchunk.ensures in
+    let n = c.in-Some.subchunk.number in
+    let is = c.in-Some.ensures.places in
     let s : AskedShard = record {
       inner = g.I.ArrayToBytesCodecTraits.meaning self.inner_codecs;
       elements = elements_of c.args.shard.elements.now;
@@ -137,8 +121,8 @@ returns-in-Ok-clause-below g c =
     let self = c.args.self.now in
     let shape = c.args.given.shape.now in
     let numbers = numbers_asked shape (asked_of c.args.given.indexer) in
-    let n = c.in-Some.n in
-    let is = subst (λ (o : Option ℕ). IfSome o (AreSubchunk shape self.subchunk_shape numbers)) c.in-Some.is c.whole_subchunk.ensures in
+    let n = c.in-Some.subchunk.number in
+    let is = c.in-Some.ensures.places in
     let below = is.below in
     let many = c.requires.many in
     let number = c.in-Ok.ensures.number in
@@ -150,8 +134,8 @@ returns-in-Ok-clause-changes g c = λ honest of cells valid.
     let self = c.args.self.now in
     let shape = c.args.given.shape.now in
     let numbers = numbers_asked shape (asked_of c.args.given.indexer) in
-    let n = c.in-Some.n in
-    let is = subst (λ (o : Option ℕ). IfSome o (AreSubchunk shape self.subchunk_shape numbers)) c.in-Some.is c.whole_subchunk.ensures in
+    let n = c.in-Some.subchunk.number in
+    let is = c.in-Some.ensures.places in
     let s : AskedShard = record {
       inner = g.I.ArrayToBytesCodecTraits.meaning self.inner_codecs;
       elements = elements_of c.args.shard.elements.now;
@@ -163,7 +147,7 @@ returns-in-Ok-clause-changes g c = λ honest of cells valid.
     } in
     let can = askable s (g.X.ArrayToBytesCodecTraits.meaning self.index_codecs) (location_of self.index_location) c.requires.fit c.requires.many (regions.asked_places shape (asked_of c.args.given.indexer) c.requires.inside) in
     let exact = g.I.ArrayToBytesCodecTraits.is_function self.inner_codecs in
-    let here : c.as_slice-shape.result.now ≡ part_shape shape self.subchunk_shape n = c.as_slice-shape.ensures.value ∙ c.in_ok-lengths-in-Some.ensures in
+    let here : c.in-Some.subchunk.shape.now ≡ part_shape shape self.subchunk_shape n = c.in-Some.ensures.shape in
     let new = subst (λ (m : ℕ). IsValid s.elements.type (payload_of c.args.given.bytes) m cells) (whole_count s n can is ∙ ap product (sym here)) valid in
     let change = c.in-Ok.change in
     let puts = subst (λ (es : List ℕ). PutsAll es s.elements.fill (asked_places s.shape s.subchunk s.numbers) cells) (sym here) (whole_puts s n can is exact cells valid.is.many) in
@@ -175,8 +159,8 @@ returns-in-Some-clause-changes g c = λ honest of cells valid.
     let self = c.args.self.now in
     let shape = c.args.given.shape.now in
     let numbers = numbers_asked shape (asked_of c.args.given.indexer) in
-    let n = c.in-Some.n in
-    let is = subst (λ (o : Option ℕ). IfSome o (AreSubchunk shape self.subchunk_shape numbers)) c.in-Some.is c.whole_subchunk.ensures in
+    let n = c.in-Some.subchunk.number in
+    let is = c.in-Some.ensures.places in
     let s : AskedShard = record {
       inner = g.I.ArrayToBytesCodecTraits.meaning self.inner_codecs;
       elements = elements_of c.args.shard.elements.now;
@@ -188,7 +172,7 @@ returns-in-Some-clause-changes g c = λ honest of cells valid.
     } in
     let can = askable s (g.X.ArrayToBytesCodecTraits.meaning self.index_codecs) (location_of self.index_location) c.requires.fit c.requires.many (regions.asked_places shape (asked_of c.args.given.indexer) c.requires.inside) in
     let exact = g.I.ArrayToBytesCodecTraits.is_function self.inner_codecs in
-    let here : c.as_slice-shape.result.now ≡ part_shape shape self.subchunk_shape n = c.as_slice-shape.ensures.value ∙ c.in_ok-lengths-in-Some.ensures in
+    let here : c.in-Some.subchunk.shape.now ≡ part_shape shape self.subchunk_shape n = c.in-Some.ensures.shape in
     let new = subst (λ (m : ℕ). IsValid s.elements.type (payload_of c.args.given.bytes) m cells) (whole_count s n can is ∙ ap product (sym here)) valid in
     let puts = subst (λ (es : List ℕ). PutsAll es s.elements.fill (asked_places s.shape s.subchunk s.numbers) cells) (sym here) (whole_puts s n can is exact cells valid.is.many) in
     let why = subst (λ (es : List ℕ). UpdatesGroup (stored_as s exact) (given_group es n (asked_places s.shape s.subchunk s.numbers) cells) (Err c.in-Err.error)) here (c.in-Err.ensures.change honest of cells (asked_places s.shape s.subchunk s.numbers) new puts) in

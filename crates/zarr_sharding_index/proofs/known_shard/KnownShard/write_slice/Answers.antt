@@ -25,8 +25,8 @@ returns-in-Ok-clause-ok g c = λ honest.
     let same : c.len-length.result ≡ length given.slice.items = omega (arith, c.len-length.ensures) in
     inr (subst (λ n. IsAppended (index_coding index exact (location_of self.location) self.shape.items) ((given.number, Some given.slice.items) ∷ []) (contents c.args.source.now) self.end (held_as (contents c.append_slice.new.source) (all_pairs c.put.new.self) (self.end + n))) (sym same) (c.in-Ok.ensures.ok honest))
 
-pub replace-requires : goal.replace-requires
-replace-requires g c =
+pub replace-requires-clause-present : goal.replace-requires-clause-present
+replace-requires-clause-present g c =
     let self = c.args.self.now in
     let small = self.small in
     ap (λ (ps : List Pair). is_absent (get_or ps c.args.given.number absent_pair)) c.in_ok-put.ensures.ok ∙ present_there (pairs_in self) c.args.given.number self.end c.len-length.result c.requires.below (omega (arith, small))
@@ -45,3 +45,7 @@ returns-in-Err-clause-known g c =
       same = (back, refl);
       laid = record { location = refl; shape = refl; size = refl };
     }
+
+-- where the subchunk was absent, the numbers are listed
+pub replace-requires-clause-listed : goal.replace-requires-clause-listed
+replace-requires-clause-listed g c = λ gone. c.in_ok-put.ensures.listed (ap is_absent (sym c.get-before.ensures) ∙ gone)

@@ -1,7 +1,7 @@
 use Rattle.std.proofs.Common.{◌∙◌, ap, arith}
 use Rattle.zarr_sharding_index.specs.Listed.{are_present, full_list}
 use Rattle.zarr_sharding_index.specs.Present.{kept_pairs}
-use Rattle.zarr_sharding_index.specs.Views.{pairs_of}
+use Rattle.zarr_sharding_index.specs.Views.{kept_numbers, pairs_of}
 use Rattle.zarr_sharding_index.proofs.Listed.{are_listed, full_count, full_length}
 use Rattle.zarr_sharding_index.proofs.Numbered.{length-numbered}
 use Rattle.zarr_sharding_index.proofs.present.PresentPairs.count_present.Goals as goal
@@ -10,18 +10,18 @@ pub returns-clause-count : goal.returns-clause-count
 returns-clause-count c =
     let self = c.args.self.now in
     let all = c.len.ensures in
-    let ok = self.numbers.ok in
-    let long = length-numbered self.numbers.items (pairs_of self.ranges) self.alike in
+    let alike = self.alike in
+    let long = length-numbered (kept_numbers self.count self.numbers) (pairs_of self.ranges) alike in
     let count = full_count self.count (kept_pairs self) (are_listed 0 self.count (kept_pairs self) self.listed) in
-    omega (arith, all, ok, long, count)
+    omega (arith, all, alike, long, count)
 
 pub returns-clause-kept : goal.returns-clause-kept
 returns-clause-kept c =
     let self = c.args.self.now in
     let all = c.len.ensures in
-    let ok = self.numbers.ok in
-    let long = length-numbered self.numbers.items (pairs_of self.ranges) self.alike in
-    omega (arith, all, ok, long)
+    let alike = self.alike in
+    let long = length-numbered (kept_numbers self.count self.numbers) (pairs_of self.ranges) alike in
+    omega (arith, all, alike, long)
 
 pub returns-clause-present : goal.returns-clause-present
 returns-clause-present c =
