@@ -12,7 +12,7 @@ use Rattle.std.proofs.lemmas.List.FromFn.{get_or-range_with_len, length-range_wi
 use Rattle.zarr_codecs_meaning.specs.Decoding.{is_absent}
 use Rattle.zarr_codecs_meaning.specs.Encoding.{Pair, absent_pair}
 use Rattle.zarr_sharding_index.specs.Listed.{IsGapFor, IsListedAt, numbered}
-use Rattle.zarr_sharding_index.specs.Views.{kept_numbers, pair_of}
+use Rattle.zarr_sharding_index.specs.Views.{numbers_or_all, pair_of}
 use Rattle.zarr_sharding_index.specs.declared.pair.PresentPair.{PresentPair}
 use Rattle.zarr_sharding_index.proofs.Listed.{AreListed, numbers_rise}
 use Rattle.zarr_sharding_index.proofs.Numbered.{at_numbered, length-numbered}
@@ -89,11 +89,11 @@ gap_behind count n ps is past =
     }
 
 -- the same of kept numbers that aren't listed
-pub found_unlisted : (count n : ℕ) (numbers : Option (Vec ℕ Global)) (ps : List Pair) → numbers ≡ None → length (kept_numbers count numbers) ≡ length ps → n < count → IsListedAt (numbered (kept_numbers count numbers) ps) n n
+pub found_unlisted : (count n : ℕ) (numbers : Option (Vec ℕ Global)) (ps : List Pair) → numbers ≡ None → length (numbers_or_all count numbers) ≡ length ps → n < count → IsListedAt (numbered (numbers_or_all count numbers) ps) n n
 found_unlisted count n None ps none is low = found_among count n ps is low
 found_unlisted count n (Some listed) ps none is low = cc
 
-pub gap_past : (count n : ℕ) (numbers : Option (Vec ℕ Global)) (ps : List Pair) → numbers ≡ None → length (kept_numbers count numbers) ≡ length ps → count ≤ n → IsGapFor (numbered (kept_numbers count numbers) ps) n count
+pub gap_past : (count n : ℕ) (numbers : Option (Vec ℕ Global)) (ps : List Pair) → numbers ≡ None → length (numbers_or_all count numbers) ≡ length ps → count ≤ n → IsGapFor (numbered (numbers_or_all count numbers) ps) n count
 gap_past count n None ps none is past = gap_behind count n ps is past
 gap_past count n (Some listed) ps none is past = cc
 
@@ -109,7 +109,7 @@ gap_unlisted n i j ps gap at =
     ]
 
 -- so where one has a gap, the numbers are listed
-pub gap_listed : (count n i : ℕ) (numbers : Option (Vec ℕ Global)) (ps : List Pair) → length (kept_numbers count numbers) ≡ length ps → n < count → IsGapFor (numbered (kept_numbers count numbers) ps) n i → is_some numbers ≡ true
+pub gap_listed : (count n i : ℕ) (numbers : Option (Vec ℕ Global)) (ps : List Pair) → length (numbers_or_all count numbers) ≡ length ps → n < count → IsGapFor (numbered (numbers_or_all count numbers) ps) n i → is_some numbers ≡ true
 gap_listed count n i None ps is low gap = absurd (gap_unlisted n i n (numbered (range_with_len 0 count) ps) gap (found_among count n ps is low))
 gap_listed count n i (Some listed) ps is low gap = refl
 

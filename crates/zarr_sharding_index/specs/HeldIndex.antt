@@ -41,7 +41,7 @@ AreHeldPairs index location shape (Some value) (Some found) = IsIndexHeld index 
 abbrev pub IsFetched : Chain → Location → List ℕ → Option (List ℕ) → Option FetchedIndex → Type 0
 IsFetched index location shape contents fetched = AreHeldPairs index location shape contents (option_map (λ (found : FetchedIndex). (all_pairs found.pairs, found.total)) fetched)
 
--- the full index of the shard that a source holds
+-- the whole index of the shard that a source holds
 abbrev pub IsWholeFetched : Chain → Location → List ℕ → Option (List ℕ) → Option WholeIndex → Type 0
 IsWholeFetched index location shape contents fetched = AreHeldPairs index location shape contents (option_map (λ (found : WholeIndex). (pairs_of found.index, found.total)) fetched)
 
@@ -57,7 +57,7 @@ abbrev pub FetchesIndex : Chain → Location → List ℕ → Option (List ℕ) 
 FetchesIndex index location shape contents (Ok found) = IsFetched index location shape contents found
 FetchesIndex index location shape contents (Err e) = FetchRefused index location shape contents e
 
--- the same of the full index
+-- what is fetched of the whole index of the shard that a source holds, or why nothing is
 abbrev pub FetchesWhole : Chain → Location → List ℕ → Option (List ℕ) → Result (Option WholeIndex) CodecError → Type 0
 FetchesWhole index location shape contents (Ok found) = IsWholeFetched index location shape contents found
 FetchesWhole index location shape contents (Err e) = FetchRefused index location shape contents e

@@ -29,10 +29,10 @@ pairs_of_bytes bytes = pairs_of_cells (fixed_cells 8 bytes)
 abbrev pub pairs_of : ShardIndex → List Pair
 pairs_of index = pairs_of_bytes index.bytes.items
 
--- the numbers of the present ones of so many subchunks: those that are listed, or all where none are
-abbrev pub kept_numbers : ℕ → Option (Vec ℕ Global) → List ℕ
-kept_numbers count None = range_with_len 0 count
-kept_numbers count (Some listed) = listed.items
+-- the numbers of the present ones of so many subchunks: those of the list, or all where there is no list
+abbrev pub numbers_or_all : ℕ → Option (Vec ℕ Global) → List ℕ
+numbers_or_all count None = range_with_len 0 count
+numbers_or_all count (Some listed) = listed.items
 
 -- the bytes that are lent, if some are
 abbrev pub slice_lent : Option (Bor (List ℕ)) → Option (List ℕ)

@@ -32,7 +32,7 @@ pub struct FetchedIndex {
     pub total: u64,
 }
 
-/// The full index of a shard, and how many bytes the shard has.
+/// The whole index of a shard, and how many bytes the shard has.
 #[derive(Debug, Drop)]
 pub(crate) struct WholeIndex {
     pub index: ShardIndex,
@@ -97,7 +97,8 @@ pub fn fetch_index<X: ArrayToBytesCodecTraits, D: BytesPartialDecoderTraits>(
     }
 }
 
-/// The full index of the shard that a source holds, as `fetch_index` fetches it, with its errors.
+/// The whole index of the shard that a source holds, or `None` where it holds none. Errors as those
+/// of `fetch_index`.
 pub(crate) fn fetch_whole_index<X: ArrayToBytesCodecTraits, D: BytesPartialDecoderTraits>(
     alloc: Global,
     codec: &X,

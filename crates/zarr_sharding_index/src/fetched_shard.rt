@@ -94,7 +94,7 @@ fn pairs_between(
         ≡ list_all (lies_between base end) (pairs_of index)) }
 {
     if all_lie_within(&index, base, end) {
-        return Ok(Some(PresentPairs::from_full(index)));
+        return Ok(Some(PresentPairs::from_all_present(index)));
     }
     let pairs = PresentPairs::from_index(alloc, index)?;
     if all_lie_between(&pairs, base, end) {

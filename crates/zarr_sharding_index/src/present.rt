@@ -3,7 +3,7 @@ ghost use Rattle.std.specs.Prelude.{◌≡◌, List, length, get_or, map, nat_lt
 ghost use Rattle.std.specs.List.{list_all, range_with_len};
 ghost use Rattle.zarr_codecs_meaning.specs.Encoding.{absent_pair};
 ghost use Rattle.zarr_sharding_index.specs.Listed.{are_present, numbered, present_numbers};
-ghost use Rattle.zarr_sharding_index.specs.Views.{kept_numbers, pairs_of};
+ghost use Rattle.zarr_sharding_index.specs.Views.{numbers_or_all, pairs_of};
 
 use crate::index::ShardIndex;
 use crate::pair::{ABSENT, PresentPair, is_absent};
@@ -11,16 +11,17 @@ use std::alloc::{AllocError, Global};
 use zarr_codecs_traits::ByteRange;
 
 /// The index of a shard, of which the pairs of present subchunks alone are kept, sorted by the
-/// numbers of these: the numbers, unless each subchunk is present, and the pairs as the full index
-/// has them. A contract sees it as the list of all pairs.
+/// numbers of these: the numbers, which may be left out where each subchunk is present, and the
+/// pairs as the full index has them. A contract sees the list of all pairs, and whether the numbers
+/// are listed.
 #[derive(Debug, Drop)]
 pub struct PresentPairs {
     count: usize,
     numbers: Option<Vec<usize>>,
     ranges: ShardIndex,
     ghost listed: { are_present 0 count
-        (numbered (kept_numbers count numbers) (pairs_of ranges)) ≡ true },
-    ghost alike: { length (kept_numbers count numbers) ≡ length (pairs_of ranges) },
+        (numbered (numbers_or_all count numbers) (pairs_of ranges)) ≡ true },
+    ghost alike: { length (numbers_or_all count numbers) ≡ length (pairs_of ranges) },
 }
 
 impl PresentPairs {
@@ -30,7 +31,7 @@ impl PresentPairs {
     ghost use Rattle.zarr_codecs_meaning.specs.Encoding.{absent_pair};
     ghost use Rattle.zarr_sharding_index.specs.Listed.{IsGapFor, IsListedAt, are_present, count_present, full_list};
     ghost use Rattle.zarr_sharding_index.specs.Present.{all_pairs, are_numbers_listed, kept_pairs};
-    ghost use Rattle.zarr_sharding_index.specs.Views.{kept_numbers, pair_of, pairs_of};
+    ghost use Rattle.zarr_sharding_index.specs.Views.{numbers_or_all, pair_of, pairs_of};
     ghost use Rattle.zarr_sharding_index.specs.declared.pair.PresentPair.{PresentPair};
 
     /// The index of so many subchunks, each of which is absent.
@@ -67,7 +68,7 @@ impl PresentPairs {
 
     /// The index of the same pairs, each of which is that of a present subchunk. Their numbers
     /// aren't listed.
-    pub(crate) fn from_full(index: ShardIndex) -> PresentPairs
+    pub(crate) fn from_all_present(index: ShardIndex) -> PresentPairs
         requires { list_all (λ pair. not (is_absent pair)) (pairs_of index) ≡ true }
         ensures { all_pairs result ≡ pairs_of index }
     {
@@ -154,9 +155,9 @@ impl PresentPairs {
 
     /// The number of the subchunk whose pair is kept at a place.
     fn number_at(&self, k: usize) -> usize
-        requires { k < length (kept_numbers self.now.count self.now.numbers) }
+        requires { k < length (numbers_or_all self.now.count self.now.numbers) }
         ensures { (other : ℕ) → result
-            ≡ get_or (kept_numbers self.now.count self.now.numbers) k other }
+            ≡ get_or (numbers_or_all self.now.count self.now.numbers) k other }
     {
         match &self.numbers {
             Some(listed) => listed[k],
@@ -182,7 +183,9 @@ impl PresentPairs {
         }
     }
 
-    /// Replaces the pair of the subchunk with this number. An `Err` leaves the index as it was.
+    /// Replaces the pair of the subchunk with this number. Where a subchunk becomes absent and the
+    /// numbers aren't listed, they are listed first, 8 bytes each. An `Err`, only where an
+    /// allocation failed, leaves the index as it was.
     pub fn put(&mut self, alloc: Global, n: usize, pair: ByteRange) -> Result<(), AllocError>
         requires { n < length (all_pairs self.old) }
         ensures ok { OnOk result
@@ -237,7 +240,7 @@ impl PresentPairs {
     }
 
     /// Replaces the pair of a subchunk that is present. Where the new one is that of an absent
-    /// subchunk, the numbers are listed.
+    /// subchunk, the numbers have to be listed already.
     pub(crate) fn replace(&mut self, n: usize, pair: ByteRange)
         requires present { is_absent (get_or (all_pairs self.old) n absent_pair) ≡ false }
         requires listed { is_absent (pair_of pair) ≡ true → are_numbers_listed self.old ≡ true }

@@ -5,8 +5,8 @@ use Rattle.zarr_sharding_index.specs.Views.{pairs_of}
 use Rattle.zarr_sharding_index.proofs.Lying.{all_within_lie, all_within_present}
 use Rattle.zarr_sharding_index.proofs.fetched_shard.pairs_between.Goals as goal
 
-pub from_full-requires : goal.from_full-requires
-from_full-requires c = all_within_present c.args.base c.args.end (pairs_of c.args.index) (omega arith) (sym c.all_lie_within.ensures ∙ c.if-all_lie_within.true)
+pub from_all_present-requires : goal.from_all_present-requires
+from_all_present-requires c = all_within_present c.args.base c.args.end (pairs_of c.args.index) (omega arith) (sym c.all_lie_within.ensures ∙ c.if-all_lie_within.true)
 
 pub returns-then-all_lie_within-clause-lie : goal.returns-then-all_lie_within-clause-lie
 returns-then-all_lie_within-clause-lie c = sym (all_within_lie c.args.base c.args.end (pairs_of c.args.index) (sym c.all_lie_within.ensures ∙ c.if-all_lie_within.true))

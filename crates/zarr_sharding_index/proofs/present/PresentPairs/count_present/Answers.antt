@@ -1,7 +1,7 @@
 use Rattle.std.proofs.Common.{◌∙◌, ap, arith}
 use Rattle.zarr_sharding_index.specs.Listed.{are_present, full_list}
 use Rattle.zarr_sharding_index.specs.Present.{kept_pairs}
-use Rattle.zarr_sharding_index.specs.Views.{kept_numbers, pairs_of}
+use Rattle.zarr_sharding_index.specs.Views.{numbers_or_all, pairs_of}
 use Rattle.zarr_sharding_index.proofs.Listed.{are_listed, full_count, full_length}
 use Rattle.zarr_sharding_index.proofs.Numbered.{length-numbered}
 use Rattle.zarr_sharding_index.proofs.present.PresentPairs.count_present.Goals as goal
@@ -11,7 +11,7 @@ returns-clause-count c =
     let self = c.args.self.now in
     let all = c.len.ensures in
     let alike = self.alike in
-    let long = length-numbered (kept_numbers self.count self.numbers) (pairs_of self.ranges) alike in
+    let long = length-numbered (numbers_or_all self.count self.numbers) (pairs_of self.ranges) alike in
     let count = full_count self.count (kept_pairs self) (are_listed 0 self.count (kept_pairs self) self.listed) in
     omega (arith, all, alike, long, count)
 
@@ -20,7 +20,7 @@ returns-clause-kept c =
     let self = c.args.self.now in
     let all = c.len.ensures in
     let alike = self.alike in
-    let long = length-numbered (kept_numbers self.count self.numbers) (pairs_of self.ranges) alike in
+    let long = length-numbered (numbers_or_all self.count self.numbers) (pairs_of self.ranges) alike in
     omega (arith, all, alike, long)
 
 pub returns-clause-present : goal.returns-clause-present

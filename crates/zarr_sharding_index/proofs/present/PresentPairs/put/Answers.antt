@@ -3,7 +3,7 @@ use Rattle.std.proofs.lemmas.Bool.{true≢false}
 use Rattle.zarr_codecs_meaning.specs.Decoding.{is_absent}
 use Rattle.zarr_codecs_meaning.specs.Encoding.{Pair, absent_pair}
 use Rattle.zarr_sharding_index.specs.Present.{all_pairs, kept_pairs}
-use Rattle.zarr_sharding_index.specs.Views.{kept_numbers, pair_of, pairs_of}
+use Rattle.zarr_sharding_index.specs.Views.{numbers_or_all, pair_of, pairs_of}
 use Rattle.zarr_sharding_index.proofs.Listed.{absent_is, are_listed, full_length}
 use Rattle.zarr_sharding_index.proofs.Kept.{kept_put, put_full}
 use Rattle.zarr_sharding_index.proofs.Numbered.{length-numbered, pair_numbered}
@@ -18,20 +18,20 @@ returns-then-is_absent-clause-ok c =
 pub put-requires : goal.put-requires
 put-requires c =
     let self = c.args.self.now in
-    subst (λ n. c.in-Ok.at < n) (length-numbered (kept_numbers self.count self.numbers) (pairs_of self.ranges) self.alike ∙ self.alike) c.in-Ok.ensures.found.within
+    subst (λ n. c.in-Ok.at < n) (length-numbered (numbers_or_all self.count self.numbers) (pairs_of self.ranges) self.alike ∙ self.alike) c.in-Ok.ensures.found.within
 
 -- the pair was there, and is written over
 pub invariant_of-self : goal.invariant_of-self
 invariant_of-self c =
     let self = c.args.self.now in
     let there = sym c.is_absent.ensures ∙ c.if-is_absent.false in
-    let new = kept_put self.count c.args.n c.in-Ok.at (kept_numbers self.count self.numbers) (pairs_of self.ranges) _ (pair_of c.args.pair) self.alike self.listed c.in-Ok.ensures.found there c.put.ensures in
+    let new = kept_put self.count c.args.n c.in-Ok.at (numbers_or_all self.count self.numbers) (pairs_of self.ranges) _ (pair_of c.args.pair) self.alike self.listed c.in-Ok.ensures.found there c.put.ensures in
     record { listed = new.listed; alike = new.alike }
 
 pub returns-in-Ok-clause-ok : goal.returns-in-Ok-clause-ok
 returns-in-Ok-clause-ok c =
     let self = c.args.self.now in
-    put_full self.count c.args.n c.in-Ok.at (kept_numbers self.count self.numbers) (pairs_of self.ranges) _ (pair_of c.args.pair) self.alike self.listed c.in-Ok.ensures.found c.put.ensures
+    put_full self.count c.args.n c.in-Ok.at (numbers_or_all self.count self.numbers) (pairs_of self.ranges) _ (pair_of c.args.pair) self.alike self.listed c.in-Ok.ensures.found c.put.ensures
 
 pub insert-requires-clause-present : goal.insert-requires-clause-present
 insert-requires-clause-present c = sym c.is_absent.ensures ∙ c.if-is_absent.false
@@ -46,7 +46,7 @@ insert-requires-clause-listed c =
 pub returns-in-Ok-clause-listed : goal.returns-in-Ok-clause-listed
 returns-in-Ok-clause-listed c = λ gone.
     let self = c.args.self.now in
-    let ns = kept_numbers self.count self.numbers in
+    let ns = numbers_or_all self.count self.numbers in
     let ps = pairs_of self.ranges in
     let listed = are_listed 0 self.count (kept_pairs self) self.listed in
     let low = subst (λ n. c.args.n < n) (full_length self.count (kept_pairs self)) c.requires in

@@ -1,7 +1,7 @@
 use Rattle.std.proofs.Common.{◌<◌, ◌∙◌, ap, set, subst, sym}
 use Rattle.zarr_codecs_meaning.specs.Encoding.{Pair}
 use Rattle.zarr_sharding_index.specs.Present.{all_pairs, kept_pairs}
-use Rattle.zarr_sharding_index.specs.Views.{kept_numbers, pair_of, pairs_of}
+use Rattle.zarr_sharding_index.specs.Views.{numbers_or_all, pair_of, pairs_of}
 use Rattle.zarr_sharding_index.proofs.Listed.{absent_is, gap_not_present}
 use Rattle.zarr_sharding_index.proofs.Kept.{kept_put, put_full}
 use Rattle.zarr_sharding_index.proofs.Numbered.{length-numbered}
@@ -15,19 +15,19 @@ returns-then-is_absent c =
 pub put-requires : goal.put-requires
 put-requires c =
     let self = c.args.self.now in
-    subst (λ n. c.in-Ok.at < n) (length-numbered (kept_numbers self.count self.numbers) (pairs_of self.ranges) self.alike ∙ self.alike) c.in-Ok.ensures.found.within
+    subst (λ n. c.in-Ok.at < n) (length-numbered (numbers_or_all self.count self.numbers) (pairs_of self.ranges) self.alike ∙ self.alike) c.in-Ok.ensures.found.within
 
 pub invariant_of-self : goal.invariant_of-self
 invariant_of-self c =
     let self = c.args.self.now in
     let there = sym c.is_absent.ensures ∙ c.if-is_absent.false in
-    let new = kept_put self.count c.args.n c.in-Ok.at (kept_numbers self.count self.numbers) (pairs_of self.ranges) _ (pair_of c.args.pair) self.alike self.listed c.in-Ok.ensures.found there c.put.ensures in
+    let new = kept_put self.count c.args.n c.in-Ok.at (numbers_or_all self.count self.numbers) (pairs_of self.ranges) _ (pair_of c.args.pair) self.alike self.listed c.in-Ok.ensures.found there c.put.ensures in
     record { listed = new.listed; alike = new.alike }
 
 pub returns-in-Ok : goal.returns-in-Ok
 returns-in-Ok c =
     let self = c.args.self.now in
-    put_full self.count c.args.n c.in-Ok.at (kept_numbers self.count self.numbers) (pairs_of self.ranges) _ (pair_of c.args.pair) self.alike self.listed c.in-Ok.ensures.found c.put.ensures
+    put_full self.count c.args.n c.in-Ok.at (numbers_or_all self.count self.numbers) (pairs_of self.ranges) _ (pair_of c.args.pair) self.alike self.listed c.in-Ok.ensures.found c.put.ensures
 
 -- a present subchunk has no gap
 pub returns-in-Err : goal.returns-in-Err

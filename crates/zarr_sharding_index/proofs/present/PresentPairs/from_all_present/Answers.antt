@@ -1,6 +1,6 @@
 use Rattle.zarr_sharding_index.specs.Views.{pairs_of}
 use Rattle.zarr_sharding_index.proofs.Kept.{made_full}
-use Rattle.zarr_sharding_index.proofs.present.PresentPairs.from_full.Goals as goal
+use Rattle.zarr_sharding_index.proofs.present.PresentPairs.from_all_present.Goals as goal
 
 pub invariant_of-result : goal.invariant_of-result
 invariant_of-result c =
