@@ -25,7 +25,7 @@ fn workers<'a>(alloc: Global) -> Arg<'a>
 {
     Arg::new(alloc, "workers")
         .long("workers")
-        .help("Decode chunks by several threads unless a line says not to")
+        .help("Decode and encode chunks in several threads unless a line says not to")
         .action(ArgAction::SetTrue)
 }
 
